@@ -6,9 +6,7 @@ use Rattle.dma_io.specs.{Answer.Prints, Answer.under_name, Answer.with_note, Com
 use Rattle.dma_manual.specs.Listing.{is_whole, listed, rest_text, stop_text}
 use Rattle.dma_manual.specs.{Assembled.program_of, Assembled.read_text, Errors.assembled_err, Notes.end_warning, Notes.form_note, Notes.hint, Pasted.Program}
 use Rattle.dma_manual.specs.{Pasted.pasted, Refusal.refusal, declared.forms.Form.Form, declared.pasted.Spelling.Spelling}
-use Rattle.dma_seeds.specs.Expect.{is_good, verdict, verdict_text, without_expects}
-use Rattle.dma_seeds.specs.Seeds.{seeds_printed, seeds_verdict, seeds_verdict_text}
-use Rattle.dma_seeds.specs.{Faults.race_message, Faults.run_message, Race.race_printed, Script.script_text, declared.seeds.SeedRange.SeedRange}
+use Rattle.dma_seeds.specs.{Answers.Races, Answers.RacesSeeds, Faults.run_message}
 use Rattle.dma_why.specs.{Laws.CirclesStayAfter, Why.why_printed}
 use Rattle.dma_trace.specs.{declared.options.TraceOptions.TraceOptions, Explained.Appends, Found.ShowsRam}
 use Rattle.dma330.specs.declared.command_line.Request.{Request}
@@ -38,24 +36,6 @@ Explains bus most program p = Appends bus program most p.succeeds [] [] p.out p.
 abbrev pub Traces : TraceOptions → List Region → List ℕ → Prints → Type 0
 Traces options ram program p =
     (after : List Region) × ShowsRam options program ram after p.succeeds [] [] [] p.out p.err p.file
-
--- `race` prints what a race prints with its turns in the order of a seed, and on standard error the fault of the script
--- or the first expect line that fails, and writes the same race as a script of `run`. The script is raced and written
--- without its expect lines.
-abbrev pub Races : ℕ → List ℕ → Prints → Type 0
-Races seed script p =
-    (p.out ≡ printed_text (race_printed (without_expects script) seed).groups)
-    × (p.err ≡ race_message script ++ verdict_text (verdict script seed))
-    × (p.file ≡ script_text (without_expects script) seed) × (p.succeeds ≡ is_good (verdict script seed))
-
--- `race --seeds` prints which outputs a race has with its turns in the orders of these seeds. On standard error it
--- prints the fault of the script; or the first expect line that fails for the lowest seed with a failure, and the
--- number of seeds with a failure.
-abbrev pub RacesSeeds : SeedRange → List ℕ → Prints → Type 0
-RacesSeeds seeds script p =
-    (p.out ≡ seeds_printed (without_expects script) seeds)
-    × (p.err ≡ race_message script ++ seeds_verdict_text (seeds_verdict script seeds) seeds) × (p.file ≡ [])
-    × (p.succeeds ≡ is_good (seeds_verdict script seeds).first)
 
 -- `why` prints why each channel is where it is after a script, and on standard error the fault of the script. No steps
 -- after the script move a channel of a circle.

@@ -1,5 +1,5 @@
 //! What the words of a command line ask for.
-use crate::subcommands::{dma330, subcommand};
+use crate::subcommands::{Subcommand, dma330};
 use crate::values::{RamRange, number, ram_range, range, seed_range};
 use clap::error::ErrorKind;
 use clap::{ArgMatches, Command, Error};
@@ -68,21 +68,15 @@ fn error_of(mut command: Command<'_>, kind: ErrorKind, message: &str) -> Result<
     command.error(kind, message)
 }
 
-/// Returns a subcommand by its name in the usage.
-fn named_subcommand<'a>(alloc: Global, name: &str) -> Result<Command<'a>, AllocError> {
-    let usage = format!(in alloc; "dma330 {name}")?;
-    subcommand(alloc, name)?.bin_name(usage.as_str())
-}
-
 impl Wrong<'_> {
     /// Returns the error of a subcommand, with its usage.
-    fn error(&self, alloc: Global, name: &str) -> Result<Error, AllocError> {
+    fn error(&self, alloc: Global, subcommand: Subcommand) -> Result<Error, AllocError> {
         let Wrong::Value { id, word, wanted } = self else {
             return Err(AllocError);
         };
         let message = format!(in alloc; "invalid value '{word}' for '--{id}': {wanted}")?;
         error_of(
-            named_subcommand(alloc, name)?,
+            subcommand.named_command(alloc)?,
             ErrorKind::ValueValidation,
             message.as_str(),
         )
@@ -188,33 +182,33 @@ fn race_of<'a>(matches: &ArgMatches<'a>) -> Result<Request, Wrong<'a>> {
 /// Reads the request of a subcommand.
 fn request_of<'a>(
     alloc: Global,
-    name: &str,
+    subcommand: Subcommand,
     matches: &ArgMatches<'a>,
 ) -> Result<Request, Wrong<'a>> {
-    match name {
-        "dis" => Ok(Request::Dis {
+    match subcommand {
+        Subcommand::Dis => Ok(Request::Dis {
             at: number_at(matches, "at", 0)?,
         }),
-        "asm" => Ok(Request::Asm {
+        Subcommand::Asm => Ok(Request::Asm {
             to_file: matches.contains_id("output"),
         }),
-        "explain" => Ok(Request::Explain {
+        Subcommand::Explain => Ok(Request::Explain {
             bus: bus_at(matches),
             most: number_at(matches, "most", USUAL_MOST)?,
         }),
-        "race" => race_of(matches),
-        "why" => Ok(Request::Why),
-        _ => trace_of(alloc, matches),
+        Subcommand::Trace => trace_of(alloc, matches),
+        Subcommand::Race => race_of(matches),
+        Subcommand::Why => Ok(Request::Why),
     }
 }
 
 /// Returns how the input spells a program, if it is text.
-fn spelling_at(name: &str, matches: &ArgMatches<'_>) -> Option<Spelling> {
+fn spelling_at(subcommand: Subcommand, matches: &ArgMatches<'_>) -> Option<Spelling> {
     if matches.get_flag("hex") {
         Some(Spelling::Digits(Notation::Pairs))
     } else if matches.get_flag("words") {
         Some(Spelling::Digits(Notation::Words))
-    } else if name != "trace" && matches.get_flag("dump") {
+    } else if subcommand != Subcommand::Trace && matches.get_flag("dump") {
         Some(Spelling::Dump)
     } else {
         None
@@ -224,13 +218,13 @@ fn spelling_at(name: &str, matches: &ArgMatches<'_>) -> Option<Spelling> {
 /// Returns the call that a subcommand and its options ask for.
 fn call_of_subcommand<'a>(
     alloc: Global,
-    name: &str,
+    subcommand: Subcommand,
     matches: &ArgMatches<'a>,
 ) -> Result<Call<'a>, Wrong<'a>> {
     Ok(Call {
-        request: request_of(alloc, name, matches)?,
+        request: request_of(alloc, subcommand, matches)?,
         input: matches.get_str("file").filter(|file| *file != "-"),
-        spelling: spelling_at(name, matches),
+        spelling: spelling_at(subcommand, matches),
         ram: ram_at(alloc, matches)?,
         output: matches
             .get_str("output")
@@ -241,13 +235,14 @@ fn call_of_subcommand<'a>(
 
 /// Returns the call that these matches ask for.
 fn call_of_matches<'a>(alloc: Global, matches: &ArgMatches<'a>) -> Result<Call<'a>, Error> {
-    let Some((name, matches)) = matches.subcommand() else {
+    let named = matches.subcommand_name().and_then(Subcommand::named);
+    let (Some(subcommand), Some((_, matches))) = (named, matches.subcommand()) else {
         let message = "no command is given";
         return Err(error_of(dma330(alloc)?, ErrorKind::MissingSubcommand, message)?);
     };
-    match call_of_subcommand(alloc, name, matches) {
+    match call_of_subcommand(alloc, subcommand, matches) {
         Ok(call) => Ok(call),
-        Err(wrong) => Err(wrong.error(alloc, name)?),
+        Err(wrong) => Err(wrong.error(alloc, subcommand)?),
     }
 }
 

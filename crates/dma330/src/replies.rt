@@ -1,11 +1,8 @@
 //! What a request prints for its input.
-ghost use Rattle.std.specs.Prelude.{◌≡◌, ◌++◌, [], IfOk, IsTrue};
+ghost use Rattle.std.specs.Prelude.{◌≡◌, IfOk, IsTrue};
 ghost use Rattle.dma_mem.specs.Regions.{in_order, pieces_of};
-ghost use Rattle.dma_seeds.specs.Expect.{is_good, verdict_text};
-ghost use Rattle.dma_seeds.specs.Faults.{race_message};
-ghost use Rattle.dma_seeds.specs.Seeds.{seeds_verdict_text};
 ghost use Rattle.dma_io.specs.Answer.{prints_of};
-ghost use Rattle.dma330.specs.Replies.{Answers, Assembles, Explains, FormReplies, InputReplies, Lists, ProgramReplies, Races, RacesSeeds, RawReplies, Reasons, Replies, TextReplies, Traces, takes_program};
+ghost use Rattle.dma330.specs.Replies.{Answers, Assembles, Explains, FormReplies, InputReplies, Lists, ProgramReplies, RawReplies, Reasons, Replies, TextReplies, Traces, takes_program};
 
 use crate::command_line::Request;
 use dma_chan::bus::Bus;
@@ -18,11 +15,9 @@ use dma_manual::notes::{end_warning, hint, with_form};
 use dma_manual::pasted::{Pasted, Spelling, read_pasted};
 use dma_manual::refusal::refusal;
 use dma_mem::regions::Region;
-use dma_seeds::expect::Verdict;
-use dma_seeds::faults::{push_race_message, push_run_message};
+use dma_seeds::faults::push_run_message;
 use dma_seeds::race::race_by_seed;
-use dma_seeds::script::script_of_seed;
-use dma_seeds::seeds::{SeedRange, SeedsVerdict, race_by_seeds};
+use dma_seeds::seeds::race_by_seeds;
 use dma_text::text::print;
 use dma_trace::explain::explain;
 use dma_trace::options::TraceOptions;
@@ -91,75 +86,6 @@ fn tracing<P: Progress>(
     Ok(Answer::new(out, err, file, succeeds))
 }
 
-/// Returns the answer with the output of a race, the fault of its script or its verdict, and the text for its file.
-fn judged(
-    alloc: Global,
-    script: &[u8],
-    out: Vec<u8>,
-    verdict: &Verdict,
-    file: Vec<u8>,
-) -> Result<Answer, AllocError>
-    ensures { IfOk result (λ answer. prints_of answer ≡ record {
-      out = out.items;
-      err = race_message script.now ++ verdict_text verdict.now;
-      file = file.items;
-      succeeds = is_good verdict.now;
-    }) }
-{
-    let mut err = Vec::new(alloc);
-    push_race_message(alloc, script, &mut err)?;
-    verdict.print(&mut err)?;
-    let succeeds = verdict.is_good();
-    Ok(Answer::new(out, err, file, succeeds))
-}
-
-/// Returns what `race` prints for a script, with the script of `run` for its file.
-fn racing(alloc: Global, script: &[u8], seed: u64) -> Result<Answer, AllocError>
-    ensures { IfOk result (λ answer. Races seed script.now (prints_of answer)) }
-{
-    let mut file = Vec::new(alloc);
-    script_of_seed(alloc, script, seed, &mut file)?;
-    let mut out = Vec::new(alloc);
-    let verdict = race_by_seed(alloc, script, seed, &mut out)?;
-    judged(alloc, script, out, &verdict, file)
-}
-
-/// Returns the answer with the outputs of a race, and the fault of its script or its verdict.
-fn all_judged(
-    alloc: Global,
-    script: &[u8],
-    seeds: SeedRange,
-    out: Vec<u8>,
-    verdict: &SeedsVerdict,
-) -> Result<Answer, AllocError>
-    ensures { IfOk result (λ answer. prints_of answer ≡ record {
-      out = out.items;
-      err = race_message script.now ++ seeds_verdict_text verdict.now seeds;
-      file = [];
-      succeeds = is_good verdict.now.first;
-    }) }
-{
-    let mut err = Vec::new(alloc);
-    push_race_message(alloc, script, &mut err)?;
-    verdict.print(seeds, &mut err)?;
-    let succeeds = verdict.first.is_good();
-    Ok(Answer::new(out, err, Vec::new(alloc), succeeds))
-}
-
-/// Returns what `race` prints for a script and a range of seeds.
-fn racing_seeds<P: Progress>(
-    alloc: Global,
-    script: &[u8],
-    seeds: SeedRange,
-    progress: &mut P,
-) -> Result<Answer, AllocError>
-    ensures { IfOk result (λ answer. RacesSeeds seeds script.now (prints_of answer)) }
-{
-    let mut out = Vec::new(alloc);
-    let verdict = race_by_seeds(alloc, script, seeds, &mut out, progress)?;
-    all_judged(alloc, script, seeds, out, &verdict)
-}
-
 /// Returns what `why` prints for a script.
 fn reasons(alloc: Global, script: &[u8]) -> Result<Answer, AllocError>
     ensures { IfOk result (λ answer. Reasons script.now (prints_of answer)) }
@@ -188,8 +114,8 @@ fn reply<P: Progress>(
         Request::Asm { to_file } => assembly(alloc, input, *to_file),
         Request::Explain { bus, most } => explanation(alloc, input, *bus, *most, progress),
         Request::Trace(options) => tracing(alloc, input, options, ram, progress),
-        Request::Race { seed } => racing(alloc, input, *seed),
-        Request::RaceSeeds(seeds) => racing_seeds(alloc, input, *seeds, progress),
+        Request::Race { seed } => race_by_seed(alloc, input, *seed),
+        Request::RaceSeeds(seeds) => race_by_seeds(alloc, input, *seeds, progress),
         Request::Why => reasons(alloc, input),
     }
 }

@@ -313,39 +313,63 @@ fn order<'a>(alloc: Global) -> Result<ArgGroup<'a>, AllocError> {
     order.arg("seed")?.arg("seeds")
 }
 
-/// Returns the command of a usage.
-fn command_of<'a>(alloc: Global, usage: &Usage) -> Result<Command<'a>, AllocError> {
-    if usage.name != "race" {
-        return plain_command(alloc, usage);
-    }
-    let order = order(alloc)?;
-    plain_command(alloc, usage)?.group(order)
+/// A subcommand.
+#[derive(Clone, Copy, PartialEq, Eq)]
+pub enum Subcommand {
+    Dis,
+    Asm,
+    Explain,
+    Trace,
+    Race,
+    Why,
 }
 
-/// Returns the usage of the subcommand of this name, or that of `trace` for any other name.
-fn usage_of(name: &str) -> &'static Usage {
-    match name {
-        "dis" => &DIS,
-        "asm" => &ASM,
-        "explain" => &EXPLAIN,
-        "race" => &RACE,
-        "why" => &WHY,
-        _ => &TRACE,
-    }
-}
+/// The subcommands, in the order of the help.
+const SUBCOMMANDS: [Subcommand; 6] = [
+    Subcommand::Dis,
+    Subcommand::Asm,
+    Subcommand::Explain,
+    Subcommand::Trace,
+    Subcommand::Race,
+    Subcommand::Why,
+];
 
-/// Returns the subcommand of this name, or `trace` for any other name.
-pub fn subcommand<'a>(alloc: Global, name: &str) -> Result<Command<'a>, AllocError> {
-    command_of(alloc, usage_of(name))
-}
-
-/// Returns the subcommands, in the order of the help.
-fn subcommands<'a>(alloc: Global) -> Result<Vec<Command<'a>>, AllocError> {
-    let mut commands = Vec::new(alloc);
-    for name in ["dis", "asm", "explain", "trace", "race", "why"] {
-        commands.push(subcommand(alloc, name)?)?;
+impl Subcommand {
+    /// Returns the subcommand of this name, or `None` for any other name.
+    pub fn named(name: &str) -> Option<Subcommand> {
+        SUBCOMMANDS
+            .iter()
+            .find(|it| it.usage().name == name)
+            .copied()
     }
-    Ok(commands)
+
+    /// Returns its usage.
+    fn usage(self) -> &'static Usage {
+        match self {
+            Subcommand::Dis => &DIS,
+            Subcommand::Asm => &ASM,
+            Subcommand::Explain => &EXPLAIN,
+            Subcommand::Trace => &TRACE,
+            Subcommand::Race => &RACE,
+            Subcommand::Why => &WHY,
+        }
+    }
+
+    /// Returns its command.
+    fn command<'a>(self, alloc: Global) -> Result<Command<'a>, AllocError> {
+        let command = plain_command(alloc, self.usage())?;
+        if self == Subcommand::Race {
+            return command.group(order(alloc)?);
+        }
+        Ok(command)
+    }
+
+    /// Returns its command under the name in the usage.
+    pub fn named_command<'a>(self, alloc: Global) -> Result<Command<'a>, AllocError> {
+        let name = self.usage().name;
+        let usage = format!(in alloc; "dma330 {name}")?;
+        self.command(alloc)?.bin_name(usage.as_str())
+    }
 }
 
 /// Returns the command of the program, without subcommands.
@@ -363,6 +387,9 @@ fn without_subcommands<'a>(alloc: Global) -> Result<Command<'a>, AllocError> {
 
 /// Returns the command of the program.
 pub fn dma330<'a>(alloc: Global) -> Result<Command<'a>, AllocError> {
-    let subcommands = subcommands(alloc)?;
-    without_subcommands(alloc)?.subcommands(subcommands)
+    let mut command = without_subcommands(alloc)?;
+    for subcommand in SUBCOMMANDS {
+        command = command.subcommand(subcommand.command(alloc)?)?;
+    }
+    Ok(command)
 }

@@ -7,7 +7,7 @@ use Rattle.dma_insn.specs.declared.chip.ChipInsn.{ChipInsn}
 use Rattle.dma_insn.specs.declared.chip.ChipInsn.TheVariants.{Ld, St, End, Sev, Wfe}
 use Rattle.dma_mem.specs.Places.{Descriptor, sources, destinations, lies_below}
 use Rattle.dma_mem.specs.{declared.marks.MarkKind.MarkKind, Marking.MarkList, Marking.meets_mark, Rules.IsTransfer}
-use Rattle.dma_chan.specs.Traffic.{burst, burst_by, member, read_len, read_places, write_len, written_places}
+use Rattle.dma_chan.specs.Traffic.{burst, burst_by, member, read_places, stored_after, written_places}
 use Rattle.dma_chan.specs.{declared.bus.Bus.TheVariants.Ideal, declared.exec.Registers.Registers, declared.turn.ChanTurn.ChanTurn}
 use Rattle.dma_chan.specs.{declared.turn.ChanTurn.TheVariants.Moved, declared.turn.ChanTurn.TheVariants.Waiting, declared.turn.ChanTurn.TheVariants.Ended}
 use Rattle.dma_chan.specs.{declared.turn.ChanTurn.TheVariants.Fault, declared.turn.FaultKind.FaultKind, declared.turn.FaultKind.TheVariants.DataWriteErr}
@@ -16,7 +16,7 @@ use Rattle.dma_chan.specs.{Exec.destination_of, Exec.exec_fetched, Exec.state, L
 use Rattle.dma_chan.specs.{NextWrites.written_next, Pace.GetsToEnd, Pace.MovesFor, Pace.OrderIs, Pace.StaysInStep, Pace.just_loaded, Reads.read_by}
 use Rattle.dma_chan.specs.{Reads.read_next, Stepping.Machine, Stepping.after_step, Stepping.after_steps, Stepping.answer_at, inner.At.IsAt}
 use Rattle.dma_chan.proofs.MembersByNumber.{at, at_burst, at_registers, at_stored, carries_next}
-use Rattle.dma_chan.proofs.{BurstsInTurn.CarriesOne, BurstsInTurn.ReadsNext, BurstsInTurn.WritesNext, LayerLaws.ahead_is, LayerLaws.starts_at}
+use Rattle.dma_chan.proofs.{BurstsInTurn.CarriesOne, LayerLaws.ahead_is, LayerLaws.starts_at}
 use Rattle.dma_chan.proofs.{LayerLaws.step_is, LayerLaws.turn_reports, MemberActs.store_touches, ShapeLaws.past_end, ShapeLaws.shape_is, SteppedOver.steps_size}
 
 -- ---- the order of the instructions
@@ -67,29 +67,26 @@ module _ (t : Descriptor) (n : ℕ) (image : List ℕ) (c : ChannelValue) (h : I
   abbrev Places : ℕ → List ℕ → List ℕ
   Places k places = take k (drop (at t n).stored places)
 
+  -- what the next instruction does, and the places of its burst
+  carries_there : (i : ChipInsn) → member t n ≡ i → CarriesOne Ideal (sources t) (destinations t) i (at t n)
+  carries_there i is = subst (λ (j : ChipInsn). CarriesOne Ideal (sources t) (destinations t) j (at t n)) is (carries_next t n h a.within)
+
+  burst_there : (i : ChipInsn) (places : List ℕ) → member t n ≡ i
+      → Places (burst_by i (at t n).registers.ccr) places ≡ take (burst t n) (drop (stored_after t n) places)
+  burst_there i places is =
+      ap (λ (k : ℕ). Places k places) (ap (λ (j : ChipInsn). burst_by j (at t n).registers.ccr) (sym is) ∙ at_burst t n)
+      ∙ ap (λ (k : ℕ). take (burst t n) (drop k places)) (at_stored t n)
+
   reads_there : member t n ≡ Ld → read_next c ≡ read_places t n
   reads_there is =
-      let r = (at t n).registers in
-      let load : ReadsNext (sources t) (at t n) =
-      subst (λ (i : ChipInsn). CarriesOne Ideal (sources t) (destinations t) i (at t n)) is (carries_next t n h a.within) in
-      let size : read_len r.ccr ≡ burst t n = ap (λ (i : ChipInsn). burst_by i r.ccr) (sym is) ∙ at_burst t n in
       ap (λ (next : Result ChipInsn FaultKind). read_by next c.registers) (ahead_is t n image c h a ∙ ap Ok is)
-      ∙ ap (λ (s : Registers). touched (source_of s)) registers_there
-      ∙ load.touches
-      ∙ ap (λ (k : ℕ). Places k (sources t)) size
-      ∙ ap (λ (k : ℕ). take (burst t n) (drop k (sources t))) (at_stored t n)
+      ∙ ap (λ (s : Registers). touched (source_of s)) registers_there ∙ (carries_there Ld is).touches ∙ burst_there Ld (sources t) is
 
   writes_there : member t n ≡ St → written_next c ≡ written_places t n
   writes_there is =
-      let r = (at t n).registers in
-      let store : WritesNext (destinations t) (at t n) =
-      subst (λ (i : ChipInsn). CarriesOne Ideal (sources t) (destinations t) i (at t n)) is (carries_next t n h a.within) in
-      let size : write_len r.ccr ≡ burst t n = ap (λ (i : ChipInsn). burst_by i r.ccr) (sym is) ∙ at_burst t n in
       ap (λ (next : Result ChipInsn FaultKind). written_by next c.registers) (ahead_is t n image c h a ∙ ap Ok is)
-      ∙ ap (λ (s : Registers). touched (destination_of s)) registers_there
-      ∙ store_touches (destinations t) (at t n) store
-      ∙ ap (λ (k : ℕ). Places k (destinations t)) size
-      ∙ ap (λ (k : ℕ). take (burst t n) (drop k (destinations t))) (at_stored t n)
+      ∙ ap (λ (s : Registers). touched (destination_of s)) registers_there ∙ store_touches (destinations t) (at t n) (carries_there St is)
+      ∙ burst_there St (destinations t) is
 
 -- the memory and the flags of a machine
 abbrev shared : Machine → Shared

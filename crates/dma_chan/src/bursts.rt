@@ -7,7 +7,7 @@ ghost use Rattle.dma_insn.specs.AssemblyText.{most_program_bytes};
 ghost use Rattle.dma_insn.specs.ControlWord.{beat_bytes};
 ghost use Rattle.dma_mem.specs.Lent.{Avoids, with_gaps};
 ghost use Rattle.dma_chan.specs.Bursts.{burst_len, touched, advance, reaches, skip_of, span_of};
-ghost use Rattle.dma_chan.specs.inner.Spans.{rounds_of, LieIn, MovesSome};
+ghost use Rattle.dma_chan.specs.inner.Spans.{rounds_of, LieIn, IsBurst};
 ghost use Rattle.dma_chan.specs.Exec.{source_of, destination_of, buffer_size, read_at};
 ghost use Rattle.dma_chan.specs.inner.Acts.{Executes, FaultsWith};
 
@@ -68,8 +68,7 @@ impl Burst {
           beats = end.beats;
           skip = skip_of bus end.increments addr (beat_bytes end.size);
         } }
-        ensures some { MovesSome result }
-        ensures limit { (result.size ≤ 16) × (result.beats ≤ 16) }
+        ensures some { IsBurst result }
     {
         let size = end.beat_bytes();
         Burst {
@@ -84,8 +83,7 @@ impl Burst {
     /// Returns how many bytes the burst moves.
     #[inline(always)]
     pub fn len(self) -> u32
-        requires some { MovesSome self }
-        requires limit { (self.size ≤ 16) × (self.beats ≤ 16) }
+        requires some { IsBurst self }
         ensures value { result ≡ burst_len self }
         ensures some { 1 ≤ result }
         ensures limit { result ≤ buffer_size }
@@ -96,8 +94,7 @@ impl Burst {
     /// Returns the range of addresses that the burst touches. It contains each address once.
     #[inline(always)]
     pub fn span(self) -> Segment
-        requires some { MovesSome self }
-        requires limit { (self.size ≤ 16) × (self.beats ≤ 16) }
+        requires some { IsBurst self }
         ensures addr { result.addr ≡ self.addr }
         ensures len { result.len ≡ span_of self }
         ensures limit { result.len ≤ buffer_size }
@@ -114,8 +111,7 @@ impl Burst {
 
     /// Returns how often the burst touches each address of its span.
     pub fn rounds(self) -> u32
-        requires some { MovesSome self }
-        requires limit { (self.size ≤ 16) × (self.beats ≤ 16) }
+        requires some { IsBurst self }
         ensures value { result ≡ rounds_of self }
         ensures bytes { result * span_of self ≡ burst_len self }
         ensures limit { result ≤ 16 }
@@ -125,8 +121,7 @@ impl Burst {
 
     /// Returns how far the burst moves its address.
     pub fn advance(self) -> u32
-        requires some { MovesSome self }
-        requires limit { (self.size ≤ 16) × (self.beats ≤ 16) }
+        requires some { IsBurst self }
         ensures value { result ≡ advance self }
         ensures limit { result ≤ span_of self }
     {
@@ -140,8 +135,7 @@ impl Burst {
 pub fn source_burst(registers: &Registers) -> Burst
     ensures value { result ≡ source_of registers.now }
     ensures addr { result.addr ≡ registers.now.sar }
-    ensures some { MovesSome result }
-    ensures limit { (result.size ≤ 16) × (result.beats ≤ 16) }
+    ensures some { IsBurst result }
 {
     Burst::of(registers.bus, registers.sar, registers.ccr.source())
 }
@@ -152,8 +146,7 @@ pub fn source_burst(registers: &Registers) -> Burst
 pub fn destination_burst(registers: &Registers) -> Burst
     ensures value { result ≡ destination_of registers.now }
     ensures addr { result.addr ≡ registers.now.dar }
-    ensures some { MovesSome result }
-    ensures limit { (result.size ≤ 16) × (result.beats ≤ 16) }
+    ensures some { IsBurst result }
 {
     Burst::of(registers.bus, registers.dar, registers.ccr.destination())
 }
@@ -163,8 +156,7 @@ pub fn destination_burst(registers: &Registers) -> Burst
 #[inline(always)]
 #[tactic(auto, using(crate::proofs::BurstReach::reaches_clear))]
 fn may_touch<M: Ram>(kind: MarkKind, marks: &Marks, memory: &M, burst: Burst) -> bool
-    requires some { MovesSome burst }
-    requires limit { (burst.size ≤ 16) × (burst.beats ≤ 16) }
+    requires some { IsBurst burst }
     ensures exact { result ≡ reaches kind (with_gaps (M.loan memory.now) marks.now)
         (length (M.paged memory.now).image) (touched burst) }
     ensures lie { IsTrue result
@@ -210,8 +202,7 @@ fn put_rounds(buffer: &mut Fifo, bytes: &[u8], rounds: u32)
 #[inline(always)]
 #[tactic(auto, using(crate::proofs::BurstRounds::read_touched))]
 fn load_span<M: Ram>(burst: Burst, buffer: &mut Fifo, block: &mut [u8], memory: &M)
-    requires some { MovesSome burst }
-    requires limit { (burst.size ≤ 16) × (burst.beats ≤ 16) }
+    requires some { IsBurst burst }
     requires room { length buffer.old + burst_len burst ≤ buffer_size }
     requires within { burst.addr + span_of burst ≤ length (M.paged memory.now).image }
     requires clear { Avoids (M.loan memory.now).gaps burst.addr (span_of burst) }
@@ -238,8 +229,7 @@ pub(crate) fn load_fault<M: Ram>(
 ) -> Option<FaultKind>
     requires burst { burst ≡ source_of executor.now.registers }
     requires addr { burst.addr ≡ executor.now.registers.sar }
-    requires some { MovesSome burst }
-    requires limit { (burst.size ≤ 16) × (burst.beats ≤ 16) }
+    requires some { IsBurst burst }
     ensures fault { FaultsWith (with_gaps (M.loan memory.now) marks.now) Ld executor.now.registers
         executor.now.buffer (M.paged memory.now).image result }
     ensures room { IsNone result

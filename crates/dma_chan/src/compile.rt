@@ -5,7 +5,8 @@ ghost use Rattle.dma_insn.specs.Chip.{spelling};
 ghost use Rattle.dma_insn.specs.ControlWord.{beat_bytes};
 ghost use Rattle.dma_chan.specs.Tree.{Repeat};
 ghost use Rattle.dma_chan.specs.inner.Compiling.{Appends, cost_of, word_of};
-ghost use Rattle.dma_chan.specs.Compiled.{where_some, body, bursts, under, fits, beat_of, parts, piece_tree, wait_tree, signal_tree, tree_on, cost, cost_on, compiled, compiled_on, pieces_of, most_compiled};
+ghost use Rattle.dma_chan.specs.Compiled.{where_some, body, bursts, under, fits, beat_of, parts, piece_tree, wait_tree, signal_tree};
+ghost use Rattle.dma_chan.specs.Compiled.{tree_on, cost, cost_on, compiled, compiled_on, pieces_of, most_compiled};
 ghost use Rattle.dma_mem.specs.Limits.{last_event};
 ghost use Rattle.dma_mem.specs.Rules.{IsTransfer};
 

@@ -44,7 +44,6 @@ pub fn costs_little()
 {}
 
 /// The bus for which a transfer's program was compiled accepts each control word that the program sets.
-#[tactic(auto, using(crate::proofs::MembersByNumber::words_accepted))]
 pub fn sets_accepted_words()
     ensures { WordsAccepted }
 {}

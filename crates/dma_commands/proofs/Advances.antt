@@ -89,25 +89,25 @@ both_texts a n last w all rest is =
 
 -- ---- a transfer that starts, moves and finishes in one call
 
-transfer_steps : (v w : View) (ch count : ℕ) (a : Advanced) (cookie finished : ℕ) → IsAdvance v ch count a w → a.started ≡ Some cookie
-    → a.last ≡ Some (Ok (Finished finished NoError 0)) → 0 < a.moved → count - a.moved ≡ 2
-    → (text_of (step_answer v ch count).0 ≡ transfer_text ch cookie a.moved finished) × (w ≡ (step_answer v ch count).1)
-transfer_steps v w ch count a cookie finished h started last some sum =
-    let finish = Finished finished NoError 0 in
-    let all = steps_then v w ch count a 1 (Ok finish) (Turned finish) h last (refl, λ e. cc) (inl refl) in
-    let two : 1 + a.moved + 1 ≡ count = omega (arith, sum) in
-    let number : steps_before a + 1 ≡ count = ap (λ (o : Option ℕ). (if is_some o then 1 else 0) + a.moved + 1) started ∙ two in
-    let steps = all ∙ ap (λ (k : ℕ). answers v (replicate k (Step ch))) number in
-    let texts = ap (λ (o : Option ℕ). map reply_text (start_replies o) ++ (replicate a.moved (turn_text Moved) ++ turn_text finish ∷ [])) (sym started)
-    ∙ both_texts a 1 (Turned finish) w (answers v (replicate count (Step ch))) [] steps
-    ∙ append-nil (map reply_text (answers v (replicate count (Step ch))).0) in
-    (ap (λ t. text_of (step_lines ch t)) (sym texts) ∙ transfer_lines ch cookie a.moved finished some, ap (λ (x : List Reply × View). x.1) steps)
+module _ (v w : View) (ch count : ℕ) (a : Advanced) (h : IsAdvance v ch count a w) (some : 0 < a.moved) (sum : count - a.moved ≡ 2) where
+  transfer_steps : (cookie finished : ℕ) → a.started ≡ Some cookie → a.last ≡ Some (Ok (Finished finished NoError 0))
+      → (text_of (step_answer v ch count).0 ≡ transfer_text ch cookie a.moved finished) × (w ≡ (step_answer v ch count).1)
+  transfer_steps cookie finished started last =
+      let finish = Finished finished NoError 0 in
+      let all = steps_then v w ch count a 1 (Ok finish) (Turned finish) h last (refl, λ e. cc) (inl refl) in
+      let two : 1 + a.moved + 1 ≡ count = omega (arith, sum) in
+      let number : steps_before a + 1 ≡ count = ap (λ (o : Option ℕ). (if is_some o then 1 else 0) + a.moved + 1) started ∙ two in
+      let steps = all ∙ ap (λ (k : ℕ). answers v (replicate k (Step ch))) number in
+      let texts = ap (λ (o : Option ℕ). map reply_text (start_replies o) ++ (replicate a.moved (turn_text Moved) ++ turn_text finish ∷ [])) (sym started)
+      ∙ both_texts a 1 (Turned finish) w (answers v (replicate count (Step ch))) [] steps
+      ∙ append-nil (map reply_text (answers v (replicate count (Step ch))).0) in
+      (ap (λ t. text_of (step_lines ch t)) (sym texts) ∙ transfer_lines ch cookie a.moved finished some, ap (λ (x : List Reply × View). x.1) steps)
 
--- A transfer that starts, moves and finishes in one call, and its lines.
-pub whole_runs : {A E : Type 0} (v w : View) (ch count : ℕ) (a : Advanced) (cookies : ℕ × ℕ) (result : Result A E) (out out' : List ℕ)
-    → IsAdvance v ch count a w → (a.started ≡ Some cookies.0) × (a.last ≡ Some (Ok (Finished cookies.1 NoError 0))) → 0 < a.moved → count - a.moved ≡ 2
-    → OnOk result (out' ≡ out ++ transfer_text ch cookies.0 a.moved cookies.1) → OnErr result (out' ≡ out) → RunsLine (step_answer v ch count) w result out out'
-whole_runs v w ch count a cookies result out out' h is some sum prints kept =
-    let steps = transfer_steps v w ch count a cookies.0 cookies.1 h is.0 is.1 some sum in
-    printed_runs (step_answer v ch count) w result out out' (on_ok_weaker result (λ _. steps.1) prints)
-    (on_ok_weaker result (λ p. p ∙ ap (λ (l : List ℕ). out ++ l) (sym steps.0)) prints) kept
+  -- A transfer that starts, moves and finishes in one call, and its lines.
+  pub whole_runs : {A E : Type 0} (cookies : ℕ × ℕ) (result : Result A E) (out out' : List ℕ)
+      → (a.started ≡ Some cookies.0) × (a.last ≡ Some (Ok (Finished cookies.1 NoError 0)))
+      → OnOk result (out' ≡ out ++ transfer_text ch cookies.0 a.moved cookies.1) → OnErr result (out' ≡ out) → RunsLine (step_answer v ch count) w result out out'
+  whole_runs cookies result out out' is prints kept =
+      let steps = transfer_steps cookies.0 cookies.1 is.0 is.1 in
+      printed_runs (step_answer v ch count) w result out out' (on_ok_weaker result (λ _. steps.1) prints)
+      (on_ok_weaker result (λ p. p ∙ ap (λ (l : List ℕ). out ++ l) (sym steps.0)) prints) kept

@@ -4,8 +4,9 @@ use Rattle.std.proofs.Common.{sym, ◌∙◌, subst, arith, append_assoc}
 use Rattle.std.specs.{Prelude.IfSome, Prelude.IfOk, Char.digit_value}
 use Rattle.std.proofs.{lemmas.Bool.cond_both, lemmas.Bool.ltb-true, lemmas.List.length-append, lemmas.List.append-nil, Math.Seq.drop-append_seam}
 use Rattle.dma_insn.specs.Disassembly.{AllInRange, Disassembles, StopsAt, insn_text, text_of}
-use Rattle.dma_insn.specs.{declared.insn.Insn.Insn, declared.codec.DecodeFault.DecodeFault, Spelling.spelling, Decoding.decoded, AssemblyText.joined}
-use Rattle.dma_insn.proofs.{Laws.IsBytes, Laws.decoded_spelling, Laws.spelling_some, Fronts.disassembly_reports}
+use Rattle.dma_insn.specs.Spelling.{HasRanges, spelling}
+use Rattle.dma_insn.specs.{declared.insn.Insn.Insn, declared.codec.DecodeFault.DecodeFault, Decoding.decoded, AssemblyText.joined}
+use Rattle.dma_insn.proofs.{GrammarLaws.IsBytes, GrammarLaws.spelling_some, Laws.decoded_spelling, Laws.decodes, Fronts.disassembly_reports}
 use Rattle.dma_script.specs.Pairs.{hex_fault, is_gap, line_after, pair_of, pairs_from, pairs_of}
 use Rattle.dma_script.specs.{Words.hex_digit_of, declared.fault.Fault.Fault}
 use Rattle.dma_text.specs.Results.{◌>>=◌}
@@ -32,20 +33,19 @@ lines_from_first offset (suc n) (x ∷ xs) i is some within =
     ∙ ap (with_line (insn_text i)) (lines_from_skipped (offset + 1) n xs (omega arith) ∙ ap (λ o. lines_from o 0 (drop n xs)) e))
 
 -- the spelling of an instruction at the front
-lines_from_spelling : (offset : ℕ) (i : Insn) (rest : List ℕ) (all : List ℕ) → all ≡ spelling i ++ rest
-    → decoded (spelling i ++ rest) ≡ Ok (i, length (spelling i))
+lines_from_spelling : (offset : ℕ) (i : Insn) (rest : List ℕ) (all : List ℕ) → HasRanges i → all ≡ spelling i ++ rest
     → lines_from offset 0 all ≡ with_line (insn_text i) (lines_from (offset + length (spelling i)) 0 rest)
-lines_from_spelling offset i rest all is read =
+lines_from_spelling offset i rest all h is =
     let n = length (spelling i) in
     let long : n ≤ length (spelling i ++ rest) = omega (arith, length-append (spelling i) rest) in
-    ap (lines_from offset 0) is ∙ lines_from_first offset n (spelling i ++ rest) i read (spelling_some i) long
+    ap (lines_from offset 0) is ∙ lines_from_first offset n (spelling i ++ rest) i (decoded_spelling i rest h) (spelling_some decodes i h) long
     ∙ ap (λ xs. with_line (insn_text i) (lines_from (offset + n) 0 xs)) (drop-append_seam (spelling i) rest)
 
 -- spellings joined have the lines of their instructions
 pub lines_from_joined : (offset : ℕ) (is : List Insn) → AllInRange is → lines_from offset 0 (joined is) ≡ Ok (map insn_text is)
 lines_from_joined offset [] h = refl
 lines_from_joined offset (i ∷ is) h =
-    lines_from_spelling offset i (joined is) (joined (i ∷ is)) refl (decoded_spelling i (joined is) h.0)
+    lines_from_spelling offset i (joined is) (joined (i ∷ is)) h.0 refl
     ∙ ap (with_line (insn_text i)) (lines_from_joined (offset + length (spelling i)) is h.1)
 
 -- joined spellings, followed by bytes that aren't an instruction
@@ -58,8 +58,7 @@ lines_from_stops offset [] (x ∷ xs) fault h some refused =
 lines_from_stops offset (i ∷ is) rest fault h some refused =
     let n = length (spelling i) in
     let e : offset + n + length (joined is) ≡ offset + length (joined (i ∷ is)) = omega (arith, length-append (spelling i) (joined is)) in
-    lines_from_spelling offset i (joined is ++ rest) (joined (i ∷ is) ++ rest) (append_assoc (spelling i) (joined is) rest)
-    (decoded_spelling i (joined is ++ rest) h.0)
+    lines_from_spelling offset i (joined is ++ rest) (joined (i ∷ is) ++ rest) h.0 (append_assoc (spelling i) (joined is) rest)
     ∙ ap (with_line (insn_text i)) (lines_from_stops (offset + n) is rest fault h.1 some refused)
     ∙ ap (λ o. Err (o, fault)) e
 

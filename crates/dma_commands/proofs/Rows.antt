@@ -11,15 +11,14 @@ use Rattle.dma_commands.specs.{Laws.printed_from, Laws.script_calls, Printed.fau
 use Rattle.dma_mem.specs.declared.call.Call.TheVariants as calls
 use Rattle.dma_engine.specs.declared.call.Reply.TheVariants as replies
 
--- lines, each ended by a line feed
-abbrev script : List (List ℕ) → List ℕ
-script [] = []
-script (line ∷ rest) = line ++ 10 ∷ script rest
-
 -- what each line of a script prints: the memory line nothing, the others one line
 abbrev one_each : List (List ℕ) → List (List (List ℕ))
 one_each [] = []
 one_each (line ∷ rest) = (line ∷ []) ∷ one_each rest
+
+-- A script prints these lines, one for each of its own after the memory line.
+abbrev Prints : List ℕ → List (List ℕ) → Type 0
+Prints script lines = (printed script).groups ≡ [] ∷ one_each lines
 
 -- words and a number
 abbrev numbered : List ℕ → ℕ → List ℕ
@@ -28,48 +27,39 @@ numbered words n = words ++ decimal n
 no_line : (printed []).groups ≡ one_each (fault_line (record { line = 0; cause = First }) ∷ [])
 no_line = refl
 
-too_large : (printed (script (codes "memory 4294963201 1" ∷ []))).groups ≡ one_each (fault_line (record { line = 1; cause = SizeOutOfRange }) ∷ [])
+too_large : (printed (codes "memory 4294963201 1\n")).groups ≡ one_each (fault_line (record { line = 1; cause = SizeOutOfRange }) ∷ [])
 too_large = refl
 
-writes_and_reads : (printed
-    (script (codes "memory 4 1" ∷ codes "write 1 AA BB" ∷ codes "read 0+4" ∷ codes "write 3 AA BB" ∷ codes "read 4+0" ∷ codes "totals" ∷ []))).groups ≡ [] ∷
-    one_each (codes "ok" ∷ codes "read 0x00000000 00 AA BB 00" ∷ codes "refused OutOfMemoryRange" ∷ codes "read 0x00000004" ∷ totals_line 3 0 0 ∷ [])
+writes_and_reads : Prints (codes "memory 4 1\nwrite 1 AA BB\nread 0+4\nwrite 3 AA BB\nread 4+0\ntotals\n")
+    (codes "ok" ∷ codes "read 0x00000000 00 AA BB 00" ∷ codes "refused OutOfMemoryRange" ∷ codes "read 0x00000004" ∷ totals_line 3 0 0 ∷ [])
 unfolding put after_moves opening share running
 writes_and_reads = refl
 
-rules : (printed (script (codes "memory 8 1" ∷ codes "copy 0+0 to 4+0" ∷ codes "copy 0+1 to 4+2" ∷ codes "copy 0+2 to 1+2" ∷ codes "copy 0+2 to 7+2" ∷
-    []))).groups ≡ [] ∷ one_each
+rules : Prints (codes "memory 8 1\ncopy 0+0 to 4+0\ncopy 0+1 to 4+2\ncopy 0+2 to 1+2\ncopy 0+2 to 7+2\n")
     (codes "refused EmptySegment" ∷ codes "refused TotalsDiffer" ∷ codes "refused SourceMeetsDestination" ∷ codes "refused OutOfMemoryRange" ∷ [])
 unfolding put after_moves opening share running
 rules = refl
 
-fill_rules : (printed (script
-    (codes "memory 8 1" ∷ codes "fill 0 to 4+0" ∷ codes "fill 0 to 4+2,5+1" ∷ codes "fill 4 to 1+4" ∷ codes "fill 8 to 1+4" ∷ []))).groups ≡ [] ∷ one_each
+fill_rules : Prints (codes "memory 8 1\nfill 0 to 4+0\nfill 0 to 4+2,5+1\nfill 4 to 1+4\nfill 8 to 1+4\n")
     (codes "refused EmptySegment" ∷ codes "refused DestinationsMeet" ∷ codes "refused SourceMeetsDestination" ∷ codes "refused OutOfMemoryRange" ∷ [])
 unfolding put after_moves opening share running
 fill_rules = refl
 
-fill_in_a_queue : (printed
-    (script (codes "memory 8 1" ∷ codes "submit 0 fill 0 to 2+2,6+1" ∷ codes "fill 0 to 2+2" ∷ codes "issue 0" ∷ codes "terminate 0" ∷ codes "result 0 1" ∷
-    []))).groups ≡ [] ∷ one_each
-    (numbered (codes "cookie ") 1 ∷ codes "refused ChannelInUse" ∷ numbered (codes "issued ") 1 ∷ numbered (codes "aborted ") 1 ∷ numbered
-    (codes "result Aborted residue ") 3 ∷ [])
+fill_in_a_queue : Prints (codes "memory 8 1\nsubmit 0 fill 0 to 2+2,6+1\nfill 0 to 2+2\nissue 0\nterminate 0\nresult 0 1\n")
+    (numbered (codes "cookie ") 1 ∷ codes "refused ChannelInUse" ∷ numbered (codes "issued ") 1 ∷ numbered (codes "aborted ") 1 ∷
+    numbered (codes "result Aborted residue ") 3 ∷ [])
 unfolding put after_moves opening share running
 fill_in_a_queue = refl
 
-queues : (printed (script
-    (codes "memory 8 1" ∷ codes "submit 0 0+2 to 2+2" ∷ codes "status 0 1" ∷ codes "copy 0+2 to 2+2" ∷ codes "issue 0" ∷ codes "terminate 0" ∷ codes
-    "result 0 1" ∷ codes "status 0 1" ∷ codes "step 0 2" ∷ []))).groups ≡ [] ∷ one_each
+queues : Prints (codes "memory 8 1\nsubmit 0 0+2 to 2+2\nstatus 0 1\ncopy 0+2 to 2+2\nissue 0\nterminate 0\nresult 0 1\nstatus 0 1\nstep 0 2\n")
     (numbered (codes "cookie ") 1 ∷ codes "status InProgress" ∷ codes "refused ChannelInUse" ∷ numbered (codes "issued ") 1 ∷ numbered (codes "aborted ") 1 ∷
     numbered (codes "result Aborted residue ") 2 ∷ codes "status Complete" ∷ step_line 0 (codes "nothing", 2) ∷ [])
 unfolding put after_moves opening share running
 queues = refl
 
-pauses : (printed (script
-    (codes "memory 8 1" ∷ codes "submit 0 0+2 to 2+2" ∷ codes "issue 0" ∷ codes "pause 0" ∷ codes "step 0 3" ∷ codes "resume 0" ∷ codes "step 0" ∷ codes
-    "write 0 AA" ∷ codes "read 4+1" ∷ []))).groups ≡ [] ∷ one_each
-    (numbered (codes "cookie ") 1 ∷ numbered (codes "issued ") 1 ∷ codes "ok" ∷ step_line 0 (codes "paused", 3) ∷ codes "ok" ∷ step_line 0
-    (numbered (codes "started ") 1, 1) ∷ refused_line (fault_text (Busy 0 1)) ∷ codes "read 0x00000004 00" ∷ [])
+pauses : Prints (codes "memory 8 1\nsubmit 0 0+2 to 2+2\nissue 0\npause 0\nstep 0 3\nresume 0\nstep 0\nwrite 0 AA\nread 4+1\n")
+    (numbered (codes "cookie ") 1 ∷ numbered (codes "issued ") 1 ∷ codes "ok" ∷ step_line 0 (codes "paused", 3) ∷ codes "ok" ∷
+    step_line 0 (numbered (codes "started ") 1, 1) ∷ refused_line (fault_text (Busy 0 1)) ∷ codes "read 0x00000004 00" ∷ [])
 unfolding put after_moves opening share running
 pauses = refl
 
@@ -87,8 +77,7 @@ groups_read (Err fault) replies = []
 
 -- One copy is submitted, and then channel 0 is in use.
 abbrev some_lines : List ℕ
-some_lines = script (codes "memory 8 1" ∷ codes "write 1 AA" ∷ codes "copy 0+0 to 4+0" ∷ codes "copy 0+2 to 7+2" ∷ codes "submit 0 0+2 to 2+2" ∷ codes
-    "fill 0 to 1+1" ∷ codes "issue 0" ∷ codes "totals" ∷ codes "step 0 3" ∷ codes "status 0 1" ∷ [])
+some_lines = codes "memory 8 1\nwrite 1 AA\ncopy 0+0 to 4+0\ncopy 0+2 to 7+2\nsubmit 0 0+2 to 2+2\nfill 0 to 1+1\nissue 0\ntotals\nstep 0 3\nstatus 0 1\n"
 
 abbrev from_to : ℕ → ℕ → Descriptor
 from_to a b = copying (record { addr = a; len = 2 } ∷ []) (record { addr = b; len = 2 } ∷ []) None None
@@ -98,9 +87,12 @@ calls_in_order : calls_read (run_script_of some_lines) ≡ calls.Write 1 (170 �
 unfolding put after_moves opening share running
 calls_in_order = refl
 
-replies_in_order : groups_read (run_script_of some_lines)
-    (replies.Done ∷ replies.Refused OutOfMemoryRange ∷ replies.Cookie 5 ∷ replies.Count 6 ∷ replies.Turned (Started 7) ∷ replies.Turned Moved ∷ replies.Turned
-    Moved ∷ replies.Cookie 8 ∷ []) ≡ [] ∷ one_each
+abbrev some_replies : List Reply
+some_replies =
+    replies.Done ∷ replies.Refused OutOfMemoryRange ∷ replies.Cookie 5 ∷ replies.Count 6 ∷ replies.Turned (Started 7) ∷ replies.Turned Moved ∷
+    replies.Turned Moved ∷ replies.Cookie 8 ∷ []
+
+replies_in_order : groups_read (run_script_of some_lines) some_replies ≡ [] ∷ one_each
     (codes "ok" ∷ codes "refused EmptySegment" ∷ codes "refused OutOfMemoryRange" ∷ numbered (codes "cookie ") 5 ∷ codes "refused ChannelInUse" ∷ numbered
     (codes "issued ") 6 ∷ totals_line 3 0 0 ∷ []) ++ (step_line 0 (numbered (codes "started ") 7, 1) ∷ step_line 0 (codes "moved", 2) ∷ []) ∷ one_each
     (numbered (codes "status ") 8 ∷ [])

@@ -75,27 +75,28 @@ read_runs v w addr n bytes result out out' is prints kept =
 
 -- ---- copies
 
--- the submit of a copy was refused
-pub refused_copy_runs : {A E : Type 0} (start : List ℕ) (v w : View) (t : Descriptor) (fault : EngineFault) (result : Result A E) (out out' : List ℕ)
-    → is_in_use v ≡ false → CallAnswers v (SubmitCall 0 t) (Refused fault) w → OnOk result (fault ≢ NoMemory)
-    → OnOk result (out' ≡ out ++ text_of (refused_line (fault_text fault) ∷ [])) → OnErr result (out' ≡ out) → RunsLine (copied start v t) w result out out'
-refused_copy_runs {A = A} {E = E} start v w t fault (Ok a) out out' free is served prints kept =
-    rw free
-    (subst (λ (x : Reply × View). RunsLine {A = A} {E = E} (copied_after start x) w (Ok a) out out')
-    (answer_unless_no_memory v w (SubmitCall 0 t) (Refused fault) (refused_served fault served) is)
-    (printed_runs {A = A} {E = E} (one_line (refused_line (fault_text fault)) w) w (Ok a) out out' refl prints tt))
-refused_copy_runs start v w t fault (Err e) out out' free is served prints kept = record { ok = tt; err = kept }
+module _ {A E : Type 0} (start : List ℕ) (v : View) (t : Descriptor) (free : is_in_use v ≡ false) where
+  -- the submit of a copy was refused
+  pub refused_copy_runs : (w : View) (fault : EngineFault) (result : Result A E) (out out' : List ℕ) → CallAnswers v (SubmitCall 0 t) (Refused fault) w
+      → OnOk result (fault ≢ NoMemory) → OnOk result (out' ≡ out ++ text_of (refused_line (fault_text fault) ∷ [])) → OnErr result (out' ≡ out)
+      → RunsLine (copied start v t) w result out out'
+  refused_copy_runs w fault (Ok a) out out' is served prints kept =
+      rw free
+      (subst (λ (x : Reply × View). RunsLine {A = A} {E = E} (copied_after start x) w (Ok a) out out')
+      (answer_unless_no_memory v w (SubmitCall 0 t) (Refused fault) (refused_served fault served) is)
+      (printed_runs {A = A} {E = E} (one_line (refused_line (fault_text fault)) w) w (Ok a) out out' refl prints tt))
+  refused_copy_runs w fault (Err e) out out' is served prints kept = record { ok = tt; err = kept }
 
--- a copy was submitted, issued and stepped through
-pub copy_runs : {A E : Type 0} (start : List ℕ) (v u x w : View) (t : Descriptor) (cookie : ℕ) (issued last : Reply) (result : Result A E) (out out' : List ℕ)
-    → is_in_use v ≡ false → (Cookie cookie, u) ≡ answer v (SubmitCall 0 t) → (issued, x) ≡ answer u (IssueCall 0) → (last, w) ≡ stepped_to_end most_copy_steps x
-    → OnOk result (out' ≡ out ++ text_of ((start ++ reply_text last) ∷ [])) → OnErr result (out' ≡ out) → RunsLine (copied start v t) w result out out'
-copy_runs {A = A} {E = E} start v u x w t cookie issued last result out out' free submitted is steps prints kept =
-    let through = steps ∙ ap (λ (a : Reply × View). stepped_to_end most_copy_steps a.1) is in
-    rw free
-    (subst (λ (a : Reply × View). RunsLine {A = A} {E = E} (copied_after start a) w result out out') submitted
-    (subst (λ (a : Reply × View). RunsLine {A = A} {E = E} (one_line (start ++ reply_text a.0) a.1) w result out out') through
-    (printed_runs (one_line (start ++ reply_text last) w) w result out out' (on_ok_weaker result (λ _. refl) prints) prints kept)))
+  -- a copy was submitted, issued and stepped through
+  pub copy_runs : (u x w : View) (cookie : ℕ) (issued last : Reply) (result : Result A E) (out out' : List ℕ) → (Cookie cookie, u) ≡ answer v (SubmitCall 0 t)
+      → (issued, x) ≡ answer u (IssueCall 0) → (last, w) ≡ stepped_to_end most_copy_steps x
+      → OnOk result (out' ≡ out ++ text_of ((start ++ reply_text last) ∷ [])) → OnErr result (out' ≡ out) → RunsLine (copied start v t) w result out out'
+  copy_runs u x w cookie issued last result out out' submitted is steps prints kept =
+      let through = steps ∙ ap (λ (a : Reply × View). stepped_to_end most_copy_steps a.1) is in
+      rw free
+      (subst (λ (a : Reply × View). RunsLine {A = A} {E = E} (copied_after start a) w result out out') submitted
+      (subst (λ (a : Reply × View). RunsLine {A = A} {E = E} (one_line (start ++ reply_text a.0) a.1) w result out out') through
+      (printed_runs (one_line (start ++ reply_text last) w) w result out out' (on_ok_weaker result (λ _. refl) prints) prints kept)))
 
 -- ---- the lines of a script, one after another
 

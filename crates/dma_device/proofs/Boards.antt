@@ -48,8 +48,7 @@ thread_same n (Writes at value) d e regions left answer does off spares =
 thread_same n (Turns m most) d e regions left answer does off spares =
     (turn_leaves_others d e regions left m most does.0 does.1.1).threads n (λ same. eqb-false m n off (sym same))
 thread_same n Resets d e regions left answer does off spares = absurd spares
-thread_same n (Restores saved) d e regions left answer does off spares =
-    ap (λ (v : DeviceValue). slice_get v.threads n) does.1 ∙ spares
+thread_same n (Restores saved) d e regions left answer does off spares = ap (λ (v : DeviceValue). slice_get v.threads n) does.1 ∙ spares
 thread_same n a d e regions left answer does off spares = ap (λ (v : DeviceValue). slice_get v.threads n) does.1
 
 -- an access that spares a work leaves each byte that the work uses
@@ -186,16 +185,11 @@ board_stays_in go w n b h (suc k) most turn c less own is reply =
     explaining.turn_stays w go.channel d (h.lent (suc k)) most e (h.left (suc k)) turn (copies_at go w n b h c k less)
     (subst (TakesTurn d (h.lent (suc k)) go.channel most e (h.left (suc k))) same does.1.1)
 
--- a turn spares a work
-spares_turn : (w : Work) (a : Access) (answer : Answer) (n most : ℕ) → a ≡ Turns n most
-    → ((turn : Turn) (x : ℕ) → answer ≡ Turned turn → Uses w x → ¬ LiesIn turn.written x) → SparesBytes w a answer
-spares_turn w a answer n most is spares = subst (λ (t : Access). SparesBytes w t answer) (sym is) spares
-
 pub spares_here : (go : Go) (v w : Work) (n b : ℕ) (h : BoardEvents) → RunsOn go v n b h → WritesApart v w → (k : ℕ) → k < h.count
     → is_turn_at h b go.channel k ≡ true → SparesBytes w (h.access k) (h.answer k)
 spares_here go v w n b h c apart k less on =
     let both = own_parts h b go.channel k on in
-    spares_turn w (h.access k) (h.answer k) go.channel (most_of (h.access k)) both.1
+    subst (λ (t : Access). SparesBytes w t (h.answer k)) (sym both.1)
     (λ turn a reply uses lies. apart a ((board_stays_in go v n b h k (most_of (h.access k)) turn c less both.0 both.1 reply).writes a lies) uses)
 
 pub board_spares : BoardSpares
@@ -290,5 +284,4 @@ pub board_runs_copy : BoardRunsCopy
 board_runs_copy = runs_copy
 
 pub a_board_copies : ABoardCopies
-a_board_copies go w n b h c k less stopped =
-    from_first go w n b h c k (dmago_copies go w n (turns_of h b go.channel) (runs_copy go w n b h c) k less stopped)
+a_board_copies go w n b h c k less stopped = from_first go w n b h c k (dmago_copies go w n (turns_of h b go.channel) (runs_copy go w n b h c) k less stopped)

@@ -7,12 +7,13 @@ use Rattle.dma_mem.specs.{Flags.flags_of, Marking.MarkList, declared.regions.Reg
 use Rattle.dma_chan.specs.Stepping.{Machine, TakesSteps, machine, signal_after, written_after}
 use Rattle.dma_chan.specs.Written.{adjoins, joined, range_at, store_ahead}
 use Rattle.dma_chan.specs.{Channel.ChannelValue, LentRegions.AreKept, LentRegions.with_gaps_of, declared.lent.Taken.Taken, declared.turn.ChanTurn.ChanTurn}
+use Rattle.dma_explain.proofs.InOrder.{marks_kept}
 use Rattle.dma_device.specs.CallSteps.{StepsThread, first_in, last_in, machine_after, marks_in, second_in, signal_in}
 use Rattle.dma_device.specs.Turns.{Outcome, Setup, TakesTurn, begins, called, called_if, follows, idle, is_beside, lines_differ, machine_in, outcome_of, raises}
 use Rattle.dma_device.specs.Turns.{runs_at, setup_of, stepped, steps_in, visible_events, with_flags}
 use Rattle.dma_device.specs.{Device.DeviceValue, Device.with_thread, Thread.answered, Thread.runs, declared.device.turns.Called.Called}
 use Rattle.dma_device.specs.{declared.device.turns.Turn.Turn, declared.thread.Thread.Thread}
-use Rattle.dma_device.proofs.{FlagNumber.number_is, InOrder.marks_kept}
+use Rattle.dma_device.proofs.FlagNumber.{number_is}
 
 -- ---- a call
 
@@ -86,8 +87,7 @@ pub stepped_is : (marks : MarkList) (n most : ℕ) (t : Thread) (s : Setup) (cha
     answered s.device.config.events (record t { channel = channel }) last sent in
     stepped marks n most t s ≡ record {
       left = record { device = with_thread n after (with_flags flags s.device); image = image };
-      called =
-          record { written = range; signal = sent; taken = taken };
+      called = record { written = range; signal = sent; taken = taken };
     }
 stepped_is marks n most t s channel image flags taken last sent range few x signal written =
     simp (sym x.count, sym x.ends_at, sym x.answer, sym signal, sym written, number_is flags few)
@@ -137,7 +137,7 @@ pub turn_is : (d m e : DeviceValue) (regions lent left : List Region) (n most : 
     → range ≡ joined first.written second.written → changed ≡ lines_differ d e → taken ≡ first.taken + second.taken
     → TakesTurn d regions n most e left (record { written = range; lines_changed = changed; taken = taken })
 turn_is d m e regions lent left n most first second range changed taken one kept two rest written lines steps =
-    let later = rw (marks_kept regions lent kept.places kept.read_only) at two in
+    let later = rw (marks_kept regions lent [] kept.places kept.read_only) at two in
     record {
       is = simp (one, later, written, lines, steps);
       kept = record { places = rest.places ∙ kept.places; read_only = rest.read_only ∙ kept.read_only; names = rest.names ∙ kept.names };

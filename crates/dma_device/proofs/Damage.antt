@@ -37,8 +37,7 @@ adler_low low high (b ∷ bs) few =
 adler_few : (low high : ℕ) (bs : List ℕ) → low < 65521 → high < 65521 → adler low high bs < 2 ^ 32
 unfolding adler
 adler_few low high [] a b = omega (arith, a, b)
-adler_few low high (c ∷ bs) a b =
-    let next = (low + c) % 65521 in adler_few next ((high + next) % 65521) bs (omega arith) (omega arith)
+adler_few low high (c ∷ bs) a b = let next = (low + c) % 65521 in adler_few next ((high + next) % 65521) bs (omega arith) (omega arith)
 
 sum_low : (bs : List ℕ) → checksum bs % 65536 ≡ (1 + total bs) % 65521
 unfolding checksum

@@ -191,8 +191,7 @@ call_sets marks n k made most s has = elim (call_is made marks n most s) [
 
 call_takes_set : (marks : MarkList) (n k : ℕ) (made : Bool) (most : ℕ) (s : Setup) → HasLine s.device k → CallTakes marks n k made most s → IsSet s.device k
     × (¬ IsHigh s.device.inten k)
-call_takes_set marks n k made most s has w =
-    takes_set marks most w.executes.thread s k has w.step w.early (w.invalid, w.dmawfe, w.passes)
+call_takes_set marks n k made most s has w = takes_set marks most w.executes.thread s k has w.step w.early (w.invalid, w.dmawfe, w.passes)
 
 -- ---- a turn
 
@@ -238,15 +237,9 @@ module _ (d : DeviceValue) (regions : List Region) (n most k : ℕ) (has : HasLi
   turn_sets = grind (arith, one, two, none_follows, off_middle, off_before)
 
   turn_takes_set : TurnTakes d regions n most k → IsSet d k × (¬ IsHigh d.inten k)
-  turn_takes_set w = grind (
-    arith,
-    one,
-    none_follows,
-    off_before,
-    call_takes_set in_regions n k (begins d n most) most (setup_of d regions) has,
-    call_takes_set
-        in_regions n k going 1 first.left has_middle,
-  )
+  turn_takes_set w =
+      let begun = call_takes_set in_regions n k (begins d n most) most (setup_of d regions) has in
+      grind (arith, one, none_follows, off_before, begun, call_takes_set in_regions n k going 1 first.left has_middle)
 
 -- ---- one access
 

@@ -18,8 +18,7 @@ flag_few false = omega arith
 
 number_below : (fs : List Bool) → number_of fs < 2 ^ length fs
 number_below [] = omega arith
-number_below (f ∷ fs) =
-    let more : flag f + 2 * number_of fs < 2 ^ suc (length fs) = omega (arith, flag_few f, number_below fs) in more
+number_below (f ∷ fs) = let more : flag f + 2 * number_of fs < 2 ^ suc (length fs) = omega (arith, flag_few f, number_below fs) in more
 
 pub number_bit : (fs : List Bool) (i : ℕ) → i < length fs → bit_at (number_of fs) i ≡ flag (get_or fs i false)
 number_bit [] i h = absurd (omega arith)

@@ -35,12 +35,9 @@ cleared (x ∷ xs) zero zero h = refl
 cleared (x ∷ xs) (suc e) (suc k) h = cleared xs e k h
 cleared xs e k h = h
 
-act_clear : (marks : MarkList) (i : ChipInsn) (s : State) (k : ℕ) → IsClear k s.flags → signal_of (Ok i) ≢ Some k → IsClear k (act marks i s).1.flags
-act_clear marks i s k h other = grind (arith, act_flags, cleared, get_or-set_other)
-
 step_clear : (marks : MarkList) (next : Result ChipInsn FaultKind) (s : State) (k : ℕ) → IsClear k s.flags → signal_of next ≢ Some k
     → IsClear k (exec_fetched marks next s).1.flags
-step_clear marks (Ok i) s k h other = act_clear marks i s k h other
+step_clear marks (Ok i) s k h other = grind (arith, act_flags, cleared, get_or-set_other)
 step_clear marks (Err kind) s k h other = h
 
 -- an instruction that signals an event sets its flag

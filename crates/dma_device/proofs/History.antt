@@ -33,18 +33,12 @@ module _ (P Up Down : ℕ → Type 0) where
   more : (i n : ℕ) → Stays Down i n → ¬ Down n → Stays Down i (n + 1)
   more i n stays calm j from less = grind arith
 
-  since_more : (n : ℕ) → Since Up Down n → ¬ Down n → Since Up Down (n + 1)
-  since_more n r calm = record { at = r.at; below = omega (arith, r.below); makes = r.makes; stays = more (r.at + 1) n r.stays calm }
-
-  since_here : (n : ℕ) → Up n → Since Up Down (n + 1)
-  since_here n up = record { at = n; below = omega arith; makes = up; stays = λ j from less. absurd (omega arith) }
-
   next_held : (n : ℕ) → Exact (P n) (P (n + 1)) (Up n) (Down n) → Held n → Held (n + 1)
   next_held n x held = (
     (λ high. elim (x.0 high) [
-      | inl up ↦ inl (since_here n up)
+      | inl up ↦ inl (record { at = n; below = omega arith; makes = up; stays = λ j from less. absurd (omega arith) })
       | inr stays ↦ elim (held.0 stays.0) [
-        | inl r ↦ inl (since_more n r stays.1)
+        | inl r ↦ inl (record { at = r.at; below = let below = r.below in omega arith; makes = r.makes; stays = more (r.at + 1) n r.stays stays.1 })
         | inr first ↦ inr (first.0, more 0 n first.1 stays.1)
       ]
     ]),

@@ -106,16 +106,8 @@ long_run at (p ∷ ps) a n rises lie =
             let there : a + (m + k) ≡ end_of p + k = omega (arith, w.1) in
             later_has p ps (end_of p + k) (has_not (end_of p + k) p (inr (omega arith)))
             (subst (λ (j : ℕ). list_any (has j) (p ∷ ps) ≡ true) there (lie (m + k) (omega (arith, less))))) in
-            omega (
-              arith,
-              later,
-              w.0,
-              w.1,
-              ap length (run_here p ps a here),
-              length-append (drop (a - p.addr) p.bytes) (run_from ps (end_of p)),
-              length-drop
-                  (a - p.addr) p.bytes,
-            )
+            let joined = length-append (drop (a - p.addr) p.bytes) (run_from ps (end_of p)) in
+            omega (arith, later, w.0, w.1, ap length (run_here p ps a here), joined, length-drop (a - p.addr) p.bytes)
         | inr other ↦
             let same : a + 0 ≡ a = omega arith in
             let past = low_has (end_of p) ps a f.rest (later_has p ps a other (subst (λ (j : ℕ). list_any (has j) (p ∷ ps) ≡ true) same (lie 0 some))) in

@@ -76,14 +76,9 @@ module _ (marks : MarkList) (most : ℕ) (t : Thread) (s : Setup) (k : ℕ) (has
 call_raises : (marks : MarkList) (n most : ℕ) (t : Thread) (s : Setup) (k : ℕ) → HasLine s.device k → let o = stepped marks n most t s in
     CallRaises s.device o.left.device o.called.signal k
 call_raises marks n most t s k has =
-    grind (
-      arith,
-      flag_sets marks most t s k has,
-      hidden s.device k (below marks most t s k has) has.inten,
-      line_after (flags_left marks most t s k has) k
-          s.device has.event,
-      bit_at-lt,
-    )
+    let hides = hidden s.device k (below marks most t s k has) has.inten in
+    let line = line_after (flags_left marks most t s k has) k s.device has.event in
+    grind (arith, flag_sets marks most t s k has, hides, line, bit_at-lt)
 
 -- nothing was signalled, and the lines are the same
 pub same_raises : (d e : DeviceValue) (signal : Option ℕ) (k : ℕ) → irqs e ≡ irqs d → signal ≡ None → CallRaises d e signal k
@@ -123,13 +118,6 @@ turn_raises d e regions left n most k turn x has =
     (subst (λ (v : DeviceValue). CallRaises m v second.called.signal k) (turn_device x)
     (if_raises (follows m n first.called) marks n 1 first.left k (has_kept k d m config same has)))
 
--- a turn leaves INTEN and the configuration as they are
-pub turn_inten : (d e : DeviceValue) (regions left : List Region) (n most : ℕ) (turn : Turn) → TakesTurn d regions n most e left turn → e.inten ≡ d.inten
-turn_inten d e regions left n most turn x = turn_keeps x (λ (v : DeviceValue). v.inten ≡ d.inten) (λ made marks m s h. if_inten made marks n m s ∙ h) refl
-
-pub turn_config : (d e : DeviceValue) (regions left : List Region) (n most : ℕ) (turn : Turn) → TakesTurn d regions n most e left turn → e.config ≡ d.config
-turn_config d e regions left n most turn x = turn_keeps x (λ (v : DeviceValue). v.config ≡ d.config) (λ made marks m s h. if_config made marks n m s ∙ h) refl
-
 -- ---- one access
 
 -- bit k of a word is 1 after exactly if it was 1 before and wasn't cleared, or if it was raised
@@ -143,13 +131,8 @@ exact_if_same k old new Up Down same =
 write_exact : (k at value : ℕ) (d : DeviceValue) (regions : List Region) → HasLine d k → let e = written (pieces_of regions) at value d in
     Exact k (irqs d) (irqs e) (Raises k (Writes at value) d regions) (Clears k (Writes at value) d)
 write_exact k at value d regions has =
-    grind (
-      arith,
-      intclr_lowers d (pieces_of regions) value k has,
-      dbgcmd_raises true d (pieces_of regions) value k,
-      others_keep true d (pieces_of regions) at
-          value,
-    )
+    let keeps = others_keep true d (pieces_of regions) at value in
+    grind (arith, intclr_lowers d (pieces_of regions) value k has, dbgcmd_raises true d (pieces_of regions) value k, keeps)
 
 turn_exact : (k n most : ℕ) (d e : DeviceValue) (regions left : List Region) (turn : Turn) → HasLine d k → TakesTurn d regions n most e left turn
     → Exact k (irqs d) (irqs e) (Raises k (Turns n most) d regions) (Clears k (Turns n most) d)
@@ -179,7 +162,8 @@ pub access_has : (k : ℕ) (a : Access) (d e : DeviceValue) (regions left : List
 access_has k (Writes at value) d e regions left answer has x =
     subst (λ (v : DeviceValue). HasLine v k) (sym x.1) (write_has k (pieces_of regions) at value d has)
 access_has k (Turns n most) d e regions left answer has x =
-    has_kept k d e (turn_config d e regions left n most x.0 x.1.1) (turn_inten d e regions left n most x.0 x.1.1) has
+    has_kept k d e (turn_keeps x.1.1 (λ (v : DeviceValue). v.config ≡ d.config) (λ made marks m s h. if_config made marks n m s ∙ h) refl)
+    (turn_keeps x.1.1 (λ (v : DeviceValue). v.inten ≡ d.inten) (λ made marks m s h. if_inten made marks n m s ∙ h) refl) has
 access_has k Resets d e regions left answer has x =
     subst (λ (v : DeviceValue). HasLine v k) (sym x.1) (record { events = has.events; event = has.event; inten = omega arith })
 access_has k (Restores saved) d e regions left answer has x =

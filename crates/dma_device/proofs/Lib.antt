@@ -1,5 +1,4 @@
--- The order of regions, by their places; rows computed from the definitions.
-pub mod InOrder
+-- What the laws and the functions cite; rows computed from the definitions.
 pub mod Starts
 pub mod FlagNumber
 pub mod FlagSteps

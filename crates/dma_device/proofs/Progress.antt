@@ -24,7 +24,7 @@ use Rattle.dma_device.proofs.Driven.{After, Before, Call, Copying, Going, Has, S
 use Rattle.dma_device.proofs.Driven.{one_of, steps_of, to, two_of}
 use Rattle.dma_device.proofs.{Events.flag_of_bit, FlagSteps.waits_at, Starts.read_csr, Interrupts.seen_bit}
 use borrow.Author.Tests.{ltb-true}
-use Rattle.dma_explain.specs.Explains.{Explains, HasEvents as HasTheEvents, IsIn, IsWait, StartsWith, Work, next_in, traced}
+use Rattle.dma_explain.specs.Explains.{Explains, HasEvents, IsIn, IsWait, StartsWith, Work, next_in, traced}
 
 -- ---- a call of a channel with a program that copies
 
@@ -186,8 +186,7 @@ stopped_reads Stopped b is = omega arith
 stopped_reads s b is = absurd (true≢false (sym is))
 
 pub csr_stopped : (d : DeviceValue) (n : ℕ) (th : Thread) → n < 8 → slice_get d.threads n ≡ Some th → is_stopped th ≡ true → csr_status d n ≡ 0
-csr_stopped d n th few is stopped =
-    ap (λ (m : ℕ). m % 16) (read_csr d n few ∙ ap (of_thread csr) is) ∙ stopped_reads th.status th.nonsecure stopped
+csr_stopped d n th few is stopped = ap (λ (m : ℕ). m % 16) (read_csr d n few ∙ ap (of_thread csr) is) ∙ stopped_reads th.status th.nonsecure stopped
 
 -- ---- along the turns
 
@@ -198,6 +197,11 @@ visible_bit d e see =
     let few : e < 32 = omega (arith, line.events, line.event) in
     let off : bit_at d.inten e ≡ 0 = omega (arith, see.1.1, bit_at-lt d.inten e) in
     omega (arith, seen_bit d e few line.inten, off, see.1.0)
+
+-- it isn't faulting, and is early enough before turn number k by how many instructions it has executed
+pub record Ahead (Early : ℕ → ℕ → Type 0) (k : ℕ) (th : Thread) : Type 0 where
+  pub fine : is_faulting th ≡ false
+  pub ahead : Early k th.channel.taken
 
 module _ (go : Go) (work : Work) (count : ℕ) (run : GivenTurns) (h : RunsCopy go work count run) (some : 0 < run.count) where
   abbrev c : Copying
@@ -215,6 +219,37 @@ module _ (go : Go) (work : Work) (count : ℕ) (run : GivenTurns) (h : RunsCopy 
       let w = may th e wait is in_program long in
       flag_of_bit (visible_events d) e (omega (arith, w.0.events, w.0.event)) (visible_bit d e w)
 
+  -- turn number j leads from at least `least` instructions to at least `more`, and these are early enough after it
+  pub record Counts (Early : ℕ → ℕ → Type 0) (j : ℕ) : Type 0 where
+    pub least : ℕ
+    pub more : ℕ
+    pub can : IsTurn c go.channel (run.before j) (run.most j) least more
+    pub reached : Before go work count run h some (Unit {0}) (Reached c go.channel least) j
+    pub ahead : (taken : ℕ) → more ≤ taken → taken ≤ count → Early (suc j) taken
+
+  -- along the turns it is early enough
+  module _ (Early : ℕ → ℕ → Type 0) (fit : (k : ℕ) → k < run.count → IsFit go work count (run.before k) (run.lent k)) where
+    counted : (j : ℕ) → j < run.count → Counts Early j → After go work count run h some (Unit {0}) (Ahead Early (suc j)) j
+    counted j less w =
+        let x = h.takes j less in
+        let after = turn_reached c go.channel (run.before j) (run.lent j) (run.most j) (run.after j) (run.left j) x.0 x.1 w.least w.more w.can
+        (fits_all go work count run h some j (fit j less)) w.reached in
+        record {
+          thread = after.thread;
+          is = after.is;
+          stands = elim after.stands [
+            | inl over ↦ inl over
+            | inr going ↦
+                let known = going.1 in
+                inr (going.0, record { fine = known.fine; ahead = w.ahead after.thread.channel.taken known.enough (within_count going.0) })
+          ];
+        }
+
+    pub stays_ahead : ((j : ℕ) → j < run.count → Before go work count run h some (Unit {0}) (Ahead Early j) j → Counts Early j) → ((taken : ℕ) → Early 0 taken)
+        → (k : ℕ) → k < run.count → After go work count run h some (Unit {0}) (Ahead Early (suc k)) k
+    stays_ahead counts none k less =
+        along go work count run h some (λ j. Unit {0}) (Ahead Early) (record { fine = refl; ahead = none _ }) (λ j l g. counted j l (counts j l g)) k less
+
   module _ (fit : (k : ℕ) → k < run.count → IsFit go work count (run.before k) (run.lent k)) (ready : ReadyTurns go count run) where
     rises : (a b : ℕ) → a + b ≤ count → ready.turn a ≤ ready.turn (a + b)
     rises a zero within = let e : a ≡ a + 0 = omega arith in subst (λ (m : ℕ). ready.turn a ≤ ready.turn m) e (omega arith)
@@ -231,27 +266,18 @@ module _ (go : Go) (work : Work) (count : ℕ) (run : GivenTurns) (h : RunsCopy 
         let here = early (omega (arith, less, within)) in
         omega (arith, here, later)
 
-    -- it isn't faulting, and has executed an instruction for each ready turn before number k
-    record Ahead (k : ℕ) (th : Thread) : Type 0 where
-      fine : is_faulting th ≡ false
-      ahead : k ≤ ready.turn th.channel.taken
+    -- it has executed an instruction for each ready turn before number k
+    abbrev Early : ℕ → ℕ → Type 0
+    Early k taken = k ≤ ready.turn taken
 
-    -- turn number j leads from at least `least` instructions to at least `more`
-    record Counts (j : ℕ) : Type 0 where
-      least : ℕ
-      more : ℕ
-      can : IsTurn c go.channel (run.before j) (run.most j) least more
-      reached : Before go work count run h some (Unit {0}) (Reached c go.channel least) j
-      ahead : more ≤ count → j < ready.turn more
-
-    counts : (j : ℕ) → Before go work count run h some (Unit {0}) (Ahead j) j → Counts j
+    counts : (j : ℕ) → Before go work count run h some (Unit {0}) (Ahead Early j) j → Counts Early j
     counts j g = elim g.stands [
       | inl over ↦ record {
         least = suc count;
         more = suc count;
         can = inl (omega arith);
         reached = record { thread = g.thread; is = g.is; stands = inl over };
-        ahead = λ within. absurd (omega (arith, within));
+        ahead = λ t long within. absurd (omega (arith, long, within));
       }
       | inr going ↦
           let known = going.1 in
@@ -269,32 +295,21 @@ module _ (go : Go) (work : Work) (count : ℕ) (run : GivenTurns) (h : RunsCopy 
                 (omega arith, subst (λ (k : ℕ). Awake c go.channel (run.before k) taken) same (awake (ready.turn taken) taken on.passes)),
               );
               reached = reached;
-              ahead = λ few. (let next = ready.rising taken (omega (arith, few)) in omega (arith, same, next));
+              ahead = λ t. later_turn j (taken + 1) t (λ few. (let next = ready.rising taken (omega (arith, few)) in omega (arith, same, next)));
             }
-            | inr other ↦ record { least = taken; more = taken; can = inl (omega arith); reached = reached; ahead = λ few. omega (arith, other, early) }
+            | inr other ↦ record {
+              least = taken;
+              more = taken;
+              can = inl (omega arith);
+              reached = reached;
+              ahead = λ t. later_turn j taken t (λ few. omega (arith, other, early));
+            }
           ]
     ]
 
-    counted : (j : ℕ) → j < run.count → Before go work count run h some (Unit {0}) (Ahead j) j → After go work count run h some (Unit {0}) (Ahead (suc j)) j
-    counted j less g =
-        let w = counts j g in
-        let x = h.takes j less in
-        let after = turn_reached c go.channel (run.before j) (run.lent j) (run.most j) (run.after j) (run.left j) x.0 x.1 w.least w.more w.can
-        (fits_all go work count run h some j (fit j less)) w.reached in
-        record {
-          thread = after.thread;
-          is = after.is;
-          stands = elim after.stands [
-            | inl over ↦ inl over
-            | inr going ↦
-                let known = going.1 in
-                inr (going.0, record { fine = known.fine; ahead = later_turn j w.more after.thread.channel.taken w.ahead known.enough (within_count going.0) })
-          ];
-        }
-
     finishes : (k : ℕ) → ready.turn count ≤ k → k < run.count → csr_status (run.after k) go.channel ≡ 0
     finishes k long less =
-        let g = along go work count run h some (λ j. Unit {0}) Ahead (record { fine = refl; ahead = omega arith }) counted k less in
+        let g = stays_ahead Early fit (λ j l. counts j) (λ t. omega arith) k less in
         elim g.stands [
           | inl over ↦ csr_stopped (run.after k) go.channel g.thread h.may_go.few g.is over.0.stopped
           | inr going ↦
@@ -308,8 +323,8 @@ dmago_finishes go work n run h fit ready k long less = finishes go work n run h 
 
 -- ---- compiled programs
 
-events_of : (go : Go) (t : Descriptor) → IsCompiled go t → HasTheEvents (start_of go) go.program t (compiled_count go t)
-events_of go t is = subst (λ (bytes : List ℕ). HasTheEvents (start_of go) bytes t (compiled_count go t)) (sym is.1) (compiled_events (start_of go) t is.0)
+events_of : (go : Go) (t : Descriptor) → IsCompiled go t → HasEvents (start_of go) go.program t (compiled_count go t)
+events_of go t is = subst (λ (bytes : List ℕ). HasEvents (start_of go) bytes t (compiled_count go t)) (sym is.1) (compiled_events (start_of go) t is.0)
 
 pub compiled_has_events : CompiledHasEvents
 compiled_has_events go t d is wait signal =

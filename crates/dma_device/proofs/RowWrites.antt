@@ -4,9 +4,10 @@ use Rattle.std.specs.{Prelude.nat_le, Prelude.nat_lt, Prelude.slice_index, List.
 use Rattle.dma_mem.specs.Regions.{Piece, has, image_of, in_order, pieces_of, read_only_of}
 use Rattle.dma_mem.specs.{Lent.lies_in_any, declared.regions.Region.Region, declared.segment.Segment.Segment}
 use Rattle.dma_chan.specs.{LentRegions.segment_of, Rowwise.row_of, Written.LiesIn}
+use Rattle.dma_explain.proofs.InOrder.{in_order_kept}
 use Rattle.dma_device.specs.RowTurns.{RowsWriteEach, TakesRowTurns, WritesRows, report_in}
 use Rattle.dma_device.specs.{Device.DeviceValue, Turns.TakesTurn, Writes.WritesRange, declared.device.rows.RowTurns.RowTurns, declared.device.turns.Turn.Turn}
-use Rattle.dma_device.proofs.{InOrder.in_order_kept, Writes.turn_writes_each, Writes.turn_writes_in_regions}
+use Rattle.dma_device.proofs.Writes.{turn_writes_each, turn_writes_in_regions}
 
 -- ---- regions at the same places have the same addresses
 

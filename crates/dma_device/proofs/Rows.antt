@@ -267,8 +267,7 @@ intmis_run = refl
 
 -- two pieces without a gap between them
 abbrev two_pieces : List Piece
-two_pieces =
-    record { addr = 0x100; bytes = 7 ∷ (0x18 ∷ []) } ∷ (record { addr = 0x102; bytes = 0x18 ∷ (0 ∷ []) } ∷ [])
+two_pieces = record { addr = 0x100; bytes = 7 ∷ (0x18 ∷ []) } ∷ (record { addr = 0x102; bytes = 0x18 ∷ (0 ∷ []) } ∷ [])
 
 across_two : HasProgram two_pieces 0x101 (0x18 ∷ (0x18 ∷ (0 ∷ [])))
 across_two = record { order = refl; short = omega arith; lies = lies; bytes = bytes }

@@ -23,15 +23,8 @@ put_is at (r ∷ rs) (q ∷ qs) places =
     let len : length r.bytes.now ≡ length q.bytes.now = sym (ap (λ (s : Segment). s.len) place) in
     let rest = bytes_above (end_of (piece_of q)) (pieces_of qs) in
     let gap = drop_at (replicate (q.addr - at) 0) (q.bytes.now ++ rest) (q.addr - at) (length-replicate (q.addr - at) 0) in
-    simp (
-      addr,
-      len,
-      gap,
-      take_at q.bytes.now rest (length q.bytes.now) refl,
-      drop_at q.bytes.now rest (length q.bytes.now) refl,
-      put_is (end_of (piece_of q))
-          rs qs places_after,
-    )
+    let behind = put_is (end_of (piece_of q)) rs qs places_after in
+    simp (addr, len, gap, take_at q.bytes.now rest (length q.bytes.now) refl, drop_at q.bytes.now rest (length q.bytes.now) refl, behind)
 
 ram_is : (regions left : List Region) → map segment_of left ≡ map segment_of regions → read_only_of left ≡ read_only_of regions
     → with_image (image_of (pieces_of left)) (ram_of regions) ≡ ram_of left

@@ -155,7 +155,8 @@ module _ (go : Go) (work : Work) (count : ℕ) (run : GivenTurns) (h : RunsCopy 
                 turn = j;
                 early = omega arith;
                 high =
-                    (turn_raises (run.before j) (run.after j) (run.lent j) (run.left j) go.channel (run.most j) i x.0 x.1 (on j less).0).1 (inr ((on j less).1, is));
+                    (turn_raises (run.before j) (run.after j) (run.lent j) (run.left j) go.channel (run.most j) i x.0 x.1 (on j less).0).1
+                    (inr ((on j less).1, is));
               };
         }) in
         let more : (Was j ⊎ (one ≡ Some i)) ⊎ (two ≡ Some i) → Was (suc j) = (λ why. elim why [

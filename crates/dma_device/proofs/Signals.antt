@@ -97,14 +97,10 @@ module _ (c : Copying) (n i : ℕ) where
         goes g.runs (steps_of k th) in
         elim why [
           | inl f ↦ omega (arith, same, known b f, counts_grow c.start c.program i th.channel.taken (to k th).channel.taken on)
-          | inr w ↦ omega (
-            arith,
-            same,
-            w.3,
-            known w.0 w.2,
-            call_counts c.start c.program c.work c.count k.marks c.first c.explains c.fits (from k th) (to k th)
-                k.most (count_in k th) (last_answer k th) i g.runs (steps_of k th) (sym sent ∙ w.1),
-          )
+          | inr w ↦
+              let counts = call_counts c.start c.program c.work c.count k.marks c.first c.explains c.fits (from k th) (to k th) k.most (count_in k th)
+              (last_answer k th) i g.runs (steps_of k th) (sym sent ∙ w.1) in
+              omega (arith, same, w.3, known w.0 w.2, counts)
         ];
   }
 
@@ -185,9 +181,6 @@ module _ (go : Go) (work : Work) (count : ℕ) (run : GivenTurns) (h : RunsCopy 
   none_rose zero rose = omega arith
   none_rose (suc a) rose = let never = rose.1 in absurd (omega (arith, never))
 
-  counted_along : (k : ℕ) → k < run.count → After go work count run h some (Unit {0}) (Known (suc k)) k
-  counted_along k less = along go work count run h some (λ k. Unit {0}) Known none_rose counted_turn k less
-
   module _ (done : Amounts) (sev : IsSignalNumber (start_of go) go.program count i j done) where
     -- a channel that has executed more DMASEVs of the event is behind this one
     passed : (taken : ℕ) → j < signals_in (start_of go) go.program i taken → IsAtLeast done (amounts_of (traced (start_of go) go.program taken))
@@ -202,7 +195,7 @@ module _ (go : Go) (work : Work) (count : ℕ) (run : GivenTurns) (h : RunsCopy 
 
     each_copied : (k : ℕ) → turn j ≤ k → k < run.count → AreDone work done (image_in (run.lent 0)) (image_in (run.left k))
     each_copied k late less =
-        let g = counted_along k less in
+        let g = along go work count run h some (λ k. Unit {0}) Known none_rose counted_turn k less in
         elim g.stands [
           | inl over ↦ are_done c (image_in (run.left k)) done (all_of work) (worked_part work c.first (image_in (run.left k)) over.0.done)
               (λ p few within. within) (λ p few within. within)

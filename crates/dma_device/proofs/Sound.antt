@@ -225,8 +225,7 @@ pub with_parts : (d : Inside) (ts : List Thread) (manager : Manager) (events int
       events = events;
       interrupts = interrupts;
       inten = inten;
-      dbginst0 =
-          dbginst0;
+      dbginst0 = dbginst0;
       dbginst1 = dbginst1;
     })
 with_parts d ts manager events interrupts inten dbginst0 dbginst1 h len count sound on a b c = grind (arith, with_items_is)

@@ -107,9 +107,6 @@ module _ (marks : MarkList) {s u : Machine} (h : MachinesAlike s u) where
   same_next : ahead_of s.channel ≡ ahead_of u.channel
   same_next = ap (λ (c : ChannelValue). ahead_of c) h.channel
 
-  same_store : store_ahead s.channel ≡ store_ahead u.channel
-  same_store = ap (λ (c : ChannelValue). store_ahead c) h.channel
-
   same_buffer : length s.channel.buffer ≡ length u.channel.buffer
   same_buffer =
       sym (length-replicate (length s.channel.buffer) 0) ∙ ap (λ (c : ChannelValue). length c.buffer) h.channel ∙ length-replicate (length u.channel.buffer) 0
@@ -160,7 +157,7 @@ module _ (marks : MarkList) (s u : Machine) (h : MachinesAlike s u) where
   signals_alike k = ap signal_of (same_next marks (steps_alike k))
 
   stores_alike : (k : ℕ) → store_ahead (after_steps marks s k).channel ≡ store_ahead (after_steps marks u k).channel
-  stores_alike k = same_store marks (steps_alike k)
+  stores_alike k = ap (λ (c : ChannelValue). store_ahead c) (steps_alike k).channel
 
   pub last_alike : (k : ℕ) → last_of marks s k ≡ last_of marks u k
   last_alike zero = refl

@@ -9,6 +9,7 @@ use Rattle.dma_mem.specs.{Flags.flags_of, Marking.MarkList, declared.regions.Reg
 use Rattle.dma_chan.specs.Stepping.{after_steps, last_of, signal_after, written_after}
 use Rattle.dma_chan.specs.{Channel.ChannelValue, LentRegions.segment_of, Written.adjoins, Written.joined, Written.store_ahead, declared.turn.ChanTurn.ChanTurn}
 use Rattle.dma_chan.specs.{declared.turn.ChanTurn.TheVariants.Moved, declared.turn.ChanTurn.TheVariants.Waiting}
+use Rattle.dma_explain.proofs.InOrder.{marks_kept}
 use Rattle.dma_device.specs.Device.{DeviceValue, address_register, channel_register, csr, device_register, faulting_bits, irq_abort, irqs, of_thread, read_at}
 use Rattle.dma_device.specs.Device.{with_thread}
 use Rattle.dma_device.specs.Frame.{AreLike, BytesDontMatter, IsLike, LikeReadsLike, RegionBytesDontMatter, blank, blank_channel, blanked}
@@ -16,7 +17,6 @@ use Rattle.dma_device.specs.Thread.{answer, answered, is_faulting, runs}
 use Rattle.dma_device.specs.Turns.{Outcome, Setup, begins, called, called_if, follows, is_beside, lines_differ, machine_in, number_of, raises, setup_of}
 use Rattle.dma_device.specs.Turns.{stepped, steps_in, turned, visible_events, with_flags}
 use Rattle.dma_device.specs.{declared.device.turns.Called.Called, declared.device.turns.Turn.Turn, declared.thread.Thread.Thread, CallSteps.marks_in}
-use Rattle.dma_device.proofs.InOrder.{marks_kept}
 use Rattle.dma_device.proofs.StepsAlike.{MachinesAlike, count_alike, last_alike, signal_alike, steps_alike, written_alike}
 use Rattle.dma_device.specs.Offsets as offset
 
@@ -108,7 +108,8 @@ module _ (marks : MarkList) (n most : ℕ) (s u : Setup) (h : AreLike s u) where
         left = record {
           devices = record {
             same =
-                put_alike n _ _ (with_flags (number_of to.flags) s.device) (with_flags (number_of end.flags) u.device) (first ∙ second ∙ third ∙ fourth) flagged;
+                put_alike n _ _ (with_flags (number_of to.flags) s.device) (with_flags (number_of end.flags) u.device)
+                (first ∙ second ∙ third ∙ fourth) flagged;
           };
           size = ends.size;
         };
@@ -232,7 +233,7 @@ region_bytes_dont_matter d e v w regions lent left rest n most turn other x y h 
     let size : length s.image ≡ length u.image = long_is 0 regions ∙ ap (long 0) (sym places) ∙ sym (long_is 0 lent) in
     let are = bytes_dont_matter (marks_in regions) n most s u (record { devices = h; size = size }) in
     let is : turned (marks_in regions) n most u ≡ (setup_of w rest, other) =
-    ap (λ (marks : MarkList). turned marks n most u) (sym (marks_kept regions lent places read_only)) ∙ y.is in
+    ap (λ (marks : MarkList). turned marks n most u) (sym (marks_kept regions lent [] places read_only)) ∙ y.is in
     let devices = subst (λ (p : Setup × Turn). AreLike (turned (marks_in regions) n most s).0 p.0) is are.0 in
     let left_like = subst (λ (p : Setup × Turn). AreLike p.0 (setup_of w rest)) x.is devices in
     (left_like.devices, sym (ap (λ (p : Setup × Turn). p.1) is) ∙ sym are.1 ∙ ap (λ (p : Setup × Turn). p.1) x.is)

@@ -140,8 +140,7 @@ runs_one = record {
     order = refl;
     short = omega arith;
     lies = lies_one;
-    bytes =
-        λ k less. image_has_bytes (memory 0 0) 0 k (region 0 0x10 program) refl refl less;
+    bytes = λ k less. image_has_bytes (memory 0 0) 0 k (region 0 0x10 program) refl refl less;
   };
   may_go = record { there = omega arith; few = omega arith; stopped = refl; manager = refl; allowed = refl };
   explains = explains;
@@ -163,8 +162,7 @@ runs_two = record {
     order = refl;
     short = omega arith;
     lies = lies_two;
-    bytes =
-        λ k less. image_has_bytes (memory 0 0) 2 k (region 2 0x40 other) refl refl less;
+    bytes = λ k less. image_has_bytes (memory 0 0) 2 k (region 2 0x40 other) refl refl less;
   };
   may_go = record { there = omega arith; few = omega arith; stopped = refl; manager = refl; allowed = refl };
   explains = explains_other;
@@ -222,8 +220,7 @@ copies_two = record {
   runs = runs_two;
   bytes = bytes;
   stays = λ k a less uses. stays k a;
-  below =
-      λ k less. ap (work_below (copied_to 0x32)) (same_size (1 + k));
+  below = λ k less. ap (work_below (copied_to 0x32)) (same_size (1 + k));
 }
   where
     spares : (k : ℕ) → k < 6 → is_turn_at board 0 0 k ≡ true → SparesBytes (copied_to 0x32) (board.access k) (board.answer k)

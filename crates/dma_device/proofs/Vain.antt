@@ -10,8 +10,8 @@ use Rattle.dma_explain.proofs.{AmongOthers.is_in, CallStays.ahead_at, CallsAmong
 use Rattle.dma_device.specs.Progress.{TheLoopFinishes, VainTurnsWait, is_clear_wait, is_vain, vain, waits_in_vain}
 use Rattle.dma_device.specs.{Copies.IsFit, Device.DeviceValue, Dmago.Go, Dmago.RunsCopy, Dmago.GivenTurns, Dmago.csr_status, Dmago.image_in, Idle.IsAtWait}
 use Rattle.dma_device.specs.{Thread.is_faulting, Thread.runs, Turns.runs_at, Turns.visible_events, declared.thread.Thread.Thread}
-use Rattle.dma_device.proofs.Driven.{After, Before, Copying, Going, along, before_each, copying}
-use Rattle.dma_device.proofs.Progress.{Awake, IsTurn, Reached, before_end, csr_stopped, going_runs, turn_reached, visible_bit, within_count}
+use Rattle.dma_device.proofs.Driven.{Before, Copying, Going, before_each, copying}
+use Rattle.dma_device.proofs.Progress.{Ahead, Awake, Counts, Reached, stays_ahead, before_end, csr_stopped, going_runs, visible_bit, within_count}
 use Rattle.dma_device.proofs.{Calls.runs_found, Copies.fits_all, Copies.turn_fine, Events.flag_of_bit}
 
 -- ---- a turn that doesn't wait in vain
@@ -61,8 +61,7 @@ module _ (go : Go) (work : Work) (count : ℕ) (run : GivenTurns) (h : RunsCopy 
       let wait : IsWait here.start here.program here.count w.0 =
       record {
         step = r.0;
-        within =
-            before_end here.start here.program here.work here.count here.explains r.0 (Wfe w.0 w.1) at.within (λ bad. cc) next;
+        within = before_end here.start here.program here.work here.count here.explains r.0 (Wfe w.0 w.1) at.within (λ bad. cc) next;
         invalid = w.1;
         waits = next;
       } in
@@ -115,37 +114,30 @@ module _ (go : Go) (work : Work) (count : ℕ) (run : GivenTurns) (h : RunsCopy 
   abbrev c : Copying
   c = copying go work count run h some
 
-  -- it isn't faulting, and has executed an instruction for each of the first k turns that didn't wait in vain
-  record Ahead (k : ℕ) (th : Thread) : Type 0 where
-    fine : is_faulting th ≡ false
-    ahead : k ≤ th.channel.taken + vain run k go.channel
+  -- it has executed an instruction for each of the first k turns that didn't wait in vain
+  abbrev Early : ℕ → ℕ → Type 0
+  Early k taken = k ≤ taken + vain run k go.channel
 
-  -- turn number j leads from at least `least` instructions to at least `more`
-  record Counts (j : ℕ) : Type 0 where
-    least : ℕ
-    more : ℕ
-    can : IsTurn c go.channel (run.before j) (run.most j) least more
-    reached : Before go work count run h some (Unit {0}) (Reached c go.channel least) j
-    ahead : suc j ≤ more + vain run (suc j) go.channel
+  abbrev Counted : ℕ → Type 0
+  Counted = Counts go work count run h some Early
 
-  counts : (j : ℕ) → j < run.count → Before go work count run h some (Unit {0}) (Ahead j) j → Counts j
+  counts : (j : ℕ) → j < run.count → Before go work count run h some (Unit {0}) (Ahead Early j) j → Counted j
   counts j less g = elim g.stands [
     | inl over ↦ record {
       least = suc j;
       more = suc j;
       can = inl (omega arith);
       reached = record { thread = g.thread; is = g.is; stands = inl over };
-      ahead =
-          omega arith;
+      ahead = λ taken long within. omega (arith, long);
     }
     | inr going ↦ by (is_vain run j go.channel) refl going.0 going.1
   ]
     where
-      here : Going c (image_in (run.lent j)) g.thread → Ahead j g.thread
+      here : Going c (image_in (run.lent j)) g.thread → Ahead Early j g.thread
           → Before go work count run h some (Unit {0}) (Reached c go.channel g.thread.channel.taken) j
       here going known = record { thread = g.thread; is = g.is; stands = inr (going, record { fine = known.fine; enough = omega arith }) }
 
-      by : (b : Bool) → is_vain run j go.channel ≡ b → Going c (image_in (run.lent j)) g.thread → Ahead j g.thread → Counts j
+      by : (b : Bool) → is_vain run j go.channel ≡ b → Going c (image_in (run.lent j)) g.thread → Ahead Early j g.thread → Counted j
       by true is going known =
           let early = known.ahead in
           let one = ap flag is in
@@ -154,8 +146,7 @@ module _ (go : Go) (work : Work) (count : ℕ) (run : GivenTurns) (h : RunsCopy 
             more = g.thread.channel.taken;
             can = inl (omega arith);
             reached = here going known;
-            ahead =
-                omega (arith, early, one);
+            ahead = λ taken long within. omega (arith, early, one, long);
           }
       by false is going known =
           let early = known.ahead in
@@ -167,31 +158,12 @@ module _ (go : Go) (work : Work) (count : ℕ) (run : GivenTurns) (h : RunsCopy 
             more = g.thread.channel.taken + 1;
             can = inr (busy (run.most j) calm.0, (omega arith, awake c go.channel (run.before j) g.thread.channel.taken on calm.1));
             reached = here going known;
-            ahead = omega (arith, early, one);
+            ahead = λ taken long within. omega (arith, early, one, long);
           }
-
-  counted : (j : ℕ) → j < run.count → Before go work count run h some (Unit {0}) (Ahead j) j → After go work count run h some (Unit {0}) (Ahead (suc j)) j
-  counted j less g =
-      let w = counts j less g in
-      let x = h.takes j less in
-      let after = turn_reached c go.channel (run.before j) (run.lent j) (run.most j) (run.after j) (run.left j) x.0 x.1 w.least w.more w.can
-      (fits_all go work count run h some j (fit j less)) w.reached in
-      record {
-        thread = after.thread;
-        is = after.is;
-        stands = elim after.stands [
-          | inl over ↦ inl over
-          | inr going ↦
-              let known = going.1 in
-              let enough = known.enough in
-              let ahead = w.ahead in
-              inr (going.0, record { fine = known.fine; ahead = omega (arith, enough, ahead) })
-        ];
-      }
 
   bounded : (k : ℕ) → k < run.count → csr_status (run.after k) go.channel ≢ 0 → suc k ≤ count + vain run (suc k) go.channel
   bounded k less goes =
-      let g = along go work count run h some (λ j. Unit {0}) Ahead (record { fine = refl; ahead = omega arith }) counted k less in
+      let g = stays_ahead go work count run h some Early fit counts (λ taken. omega arith) k less in
       elim g.stands [
         | inl over ↦ absurd (goes (csr_stopped (run.after k) go.channel g.thread h.may_go.few g.is over.0.stopped))
         | inr going ↦

@@ -107,12 +107,12 @@ all_at f (x ∷ xs) zero a all l e = subst (λ (y : ℕ). f y ≡ true) e (and_p
 all_at f (x ∷ xs) (suc i) a all l e = all_at f xs i a (and_parts (f x) (list_all f xs) all).1 (omega arith) e
 
 -- the test of one address
-abbrev fits : MarkList → ℕ → ℕ → Bool
-fits marks size a = nat_lt a size && not (is_marked Writing marks a)
+abbrev can_write : MarkList → ℕ → ℕ → Bool
+can_write marks size a = nat_lt a size && not (is_marked Writing marks a)
 
-reached : (marks : MarkList) (size : ℕ) (xs : List ℕ) (a : ℕ) → reaches Writing marks size xs ≡ true → Contains xs a → fits marks size a ≡ true
+reached : (marks : MarkList) (size : ℕ) (xs : List ℕ) (a : ℕ) → reaches Writing marks size xs ≡ true → Contains xs a → can_write marks size a ≡ true
 unfolding reaches
-reached marks size xs a all i = all_at (fits marks size) xs i.0 a all i.1 i.2
+reached marks size xs a all i = all_at (can_write marks size) xs i.0 a all i.1 i.2
 
 store_reaches : (marks : MarkList) (s : State) → (act marks St s).0 ≡ Moved
     → reaches Writing marks (length s.image) (touched (destination_of s.registers)) ≡ true
@@ -123,15 +123,15 @@ zeros_reach : (marks : MarkList) (s : State) → (act marks StoreZeros s).0 ≡ 
 zeros_reach marks s moved = grind arith
 
 step_reaches : (marks : MarkList) (next : Result ChipInsn FaultKind) (s : State) (a : ℕ) → (exec_fetched marks next s).0 ≡ Moved
-    → Contains (written_by next s.registers) a → fits marks (length s.image) a ≡ true
+    → Contains (written_by next s.registers) a → can_write marks (length s.image) a ≡ true
 step_reaches marks (Ok St) s a moved i = reached marks (length s.image) (touched (destination_of s.registers)) a (store_reaches marks s moved) i
 step_reaches marks (Ok StoreZeros) s a moved i = reached marks (length s.image) (touched (destination_of s.registers)) a (zeros_reach marks s moved) i
 step_reaches marks next s a moved i = absurd (omega (arith, i.1))
 
-wrote_fits : (marks : MarkList) (s : Machine) (n a : ℕ) → Wrote marks s n a → fits marks (length s.image) a ≡ true
+wrote_fits : (marks : MarkList) (s : Machine) (n a : ℕ) → Wrote marks s n a → can_write marks (length s.image) a ≡ true
 wrote_fits marks s n a w =
     let u = after_steps marks s w.0 in
-    ap (λ (k : ℕ). fits marks k a) (sym (steps_size marks s w.0)) ∙ step_reaches marks (ahead_of u.channel) (state_of u.channel u.image u.flags) a w.2 w.3
+    ap (λ (k : ℕ). can_write marks k a) (sym (steps_size marks s w.0)) ∙ step_reaches marks (ahead_of u.channel) (state_of u.channel u.image u.flags) a w.2 w.3
 
 -- ---- the regions
 

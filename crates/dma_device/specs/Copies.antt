@@ -3,8 +3,8 @@ use Rattle.std.specs.Prelude.{◌≡◌, ◌≢◌, ℕ, ◌+◌, ◌<◌, ◌�
 use Rattle.std.specs.List.{Contains, count_by}
 use Rattle.dma_mem.specs.{Places.destinations, Places.size_of, Places.sources, Regions.in_order, Regions.pieces_of, declared.regions.Region.Region}
 use Rattle.dma_explain.specs.Explains.{IsAtLeast, IsSignal, IsWait, Work, cleared, events_in}
-use Rattle.dma_explain.specs.declared.explain.Sync.TheVariants.{Signals, Waits}
-use Rattle.dma_explain.specs.{declared.explain.Amounts.Amounts, declared.explain.Sync.Sync, RegionsHave.HaveAll, Works.IsWorked}
+use Rattle.dma_explain.specs.declared.explain.EventSync.TheVariants.{Signals, Waits}
+use Rattle.dma_explain.specs.{declared.explain.Amounts.Amounts, declared.explain.EventSync.EventSync, RegionsHave.HaveAll, Works.IsWorked}
 use Rattle.dma_chan.specs.declared.exec.Registers.{Registers}
 use Rattle.dma_device.specs.Dmago.{Go, RunsCopy, GivenTurns, csr_status, image_in, start_of}
 use Rattle.dma_device.specs.{Device.DeviceValue, Device.irqs, Interrupts.HasLine, Interrupts.IsHigh}
@@ -45,7 +45,7 @@ DmagoInterrupts =
     (k : ℕ) → k < run.count → HasRisen run i k → AreDone w least (image_in (run.lent 0)) (image_in (run.left k))
 
 -- whether what an instruction does with an event is to signal event e
-abbrev pub is_signal_of : ℕ → Sync → Bool
+abbrev pub is_signal_of : ℕ → EventSync → Bool
 is_signal_of e (Signals d) = nat_eq d e
 is_signal_of e (Waits d) = false
 

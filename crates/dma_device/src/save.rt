@@ -53,6 +53,7 @@ pub(crate) fn push(out: &mut HeadBytes, bytes: &[u8])
 pub(crate) const SUM_LEN: usize = 4;
 
 // Writes the checksum of the first `len` bytes behind them.
+#[tactic(auto, unfolding(dma_chan::specs::Saved::sealed))]
 pub(crate) fn seal(out: &mut [u8], len: usize)
     requires { len + 4 ≤ length out.old }
     ensures { out.new ≡ sealed (take len out.old) ++ drop (len + 4) out.old }

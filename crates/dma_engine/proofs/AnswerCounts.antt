@@ -17,7 +17,8 @@ use Rattle.dma_engine.specs.{declared.outcome.TransResult.TransResult, declared.
 use Rattle.dma_engine.specs.{View.object_of, View.channels}
 use Rattle.dma_engine.proofs.{Histories.object_after_append, Turns.answer_is, Turns.step_is_law, Turns.turn_cases}
 use Rattle.dma_mem.specs.declared.call.Call.TheVariants.{Write, Read, Issue, Pause, Resume, Status, Result as ResultOf, Mark, Unmark, Raise}
-use Rattle.dma_engine.specs.declared.entry.Entry.TheVariants.{Wrote, ReadBack, Submitted as SubmittedEntry, Issued, Passed, Signalled, Finished as FinishedEntry, Terminated, Marked, Unmarked}
+use Rattle.dma_engine.specs.declared.entry.Entry.TheVariants.{Wrote, ReadBack, Issued, Passed, Signalled, Terminated, Marked, Unmarked}
+use Rattle.dma_engine.specs.declared.entry.Entry.TheVariants.{Submitted as SubmittedEntry, Finished as FinishedEntry}
 use Rattle.dma_engine.specs.declared.turn.Turn.TheVariants.{Moved, Finished as FinishedTurn}
 
 -- ---- lists of ticks

@@ -13,6 +13,7 @@ use Rattle.dma_engine.specs.{declared.entry.Entry.Entry, declared.entry.Signalle
 use Rattle.dma_engine.specs.{declared.outcome.TransResult.TheVariants.Aborted, History.object_after, History.IsLegal, declared.queue.Queue.Queue}
 use Rattle.dma_engine.specs.{Answer.status_by, Answer.status_in, View.View, View.object_of, inner.Holds.Holds, inner.Holds.Parts, inner.Holds.view_of}
 use Rattle.dma_engine.proofs.Queues.{HoldsAt, front_where}
+use Rattle.dma_engine.specs.inner.Holds.{state_in}
 
 -- ---- what bounds the counts
 
@@ -46,10 +47,7 @@ pub length_aborted : (done : ℕ) (ts : List Descriptor) → length (aborted don
 length_aborted done [] = refl
 length_aborted done (t ∷ ts) = ap suc (length-map ts _)
 
--- the outcomes after one, or all, are added
-pub finished_one : (c : ChannelState) (P : Descriptor → Type 0) → FrontIs c P → finished c + 1 ≤ used c
-finished_one c P h = let f = front_where c P h.1 in omega (arith, f.within)
-
+-- the outcomes after all are added
 pub finished_all_law : (c : ChannelState) (done : ℕ) → finished c ≤ used c
     → c.forgotten + length (c.outcomes ++ aborted done (drop (length c.outcomes) c.submitted)) ≡ used c
 finished_all_law c done h =
@@ -61,18 +59,15 @@ finished_all_law c done h =
       h,
     )
 
-pub issued_one : (c : ChannelState) (P : Descriptor → Type 0) → FrontIs c P → finished c + 1 ≤ c.issued
-issued_one c P h = let f = front_where c P h.1 in omega (arith, f.below)
+-- a front is given and issued
+one_more : (c : ChannelState) (P : Descriptor → Type 0) → FrontIs c P → (finished c + 1 ≤ used c) × (finished c + 1 ≤ c.issued)
+one_more c P h = let f = front_where c P h.1 in (omega (arith, f.within), omega (arith, f.below))
 
--- a front that finishes
-fronts : (o : Object) (ch : ℕ) (result : TransResult) (done : ℕ) → Allows o (Finished ch result done) → finished (channel o ch) + 1 ≤ used (channel o ch)
+-- and so is one that finishes
+fronts : (o : Object) (ch : ℕ) (result : TransResult) (done : ℕ) → Allows o (Finished ch result done)
+    → let c = channel o ch in (finished c + 1 ≤ used c) × (finished c + 1 ≤ c.issued)
 fronts o ch Aborted done h = absurd h
-fronts o ch result done h = finished_one (channel o ch) _ h
-
-issued_fronts : (o : Object) (ch : ℕ) (result : TransResult) (done : ℕ) → Allows o (Finished ch result done)
-    → finished (channel o ch) + 1 ≤ (channel o ch).issued
-issued_fronts o ch Aborted done h = absurd h
-issued_fronts o ch result done h = issued_one (channel o ch) _ h
+fronts o ch result done h = one_more (channel o ch) _ h
 
 pub counted_after : (o : Object) (e : Entry) → AreCounted o → Allows o e → AreCounted (after o e)
 counted_after o (Submitted ch t cookie) h a =
@@ -96,8 +91,8 @@ counted_after o (Finished ch result done) h a =
     let n = length_push c.outcomes (outcome_of result (front_of c) done) in
     each_with IsCounted (with_front_laid o ch done) ch _ h
     (record {
-      finish = omega (arith, fronts o ch result done a, n);
-      order = omega (arith, issued_fronts o ch result done a, n);
+      finish = omega (arith, (fronts o ch result done a).0, n);
+      order = omega (arith, (fronts o ch result done a).1, n);
       issue = old.issue;
       give =
           old.give;
@@ -136,8 +131,7 @@ added : (n by : ℕ) → n + by ≤ last_cookie → added_up n by ≡ n + by
 added n by h = omega arith
 
 same_counts : (o : Object) (ch : ℕ) (c : ChannelState) → counts_of c ≡ counts_of (channel o ch) → board_of o ≡ board_of (with_channel o ch c)
-same_counts o ch c h =
-    sym (board_with o ch c ∙ ap (slice_set (board_of o) ch) (h ∙ sym (counts_at o ch)) ∙ set-get_or (board_of o) ch no_counts)
+same_counts o ch c h = sym (board_with o ch c ∙ ap (slice_set (board_of o) ch) (h ∙ sym (counts_at o ch)) ∙ set-get_or (board_of o) ch no_counts)
 
 -- the board after one entry
 pub board_after_law : (o : Object) (e : Entry) → AreCounted o → Allows o e → board_after (board_of o) (ticks_of (e ∷ [])) ≡ board_of (after o e)
@@ -156,7 +150,7 @@ board_after_law o (Finished ch result done) h a =
     let old = h ch in
     let outcome = outcome_of result (front_of c) done in
     let n : added_up (finished c) 1 ≡ c.forgotten + length (c.outcomes ++ outcome ∷ []) =
-    omega (arith, length_push c.outcomes outcome, fronts o ch result done a, old.give) in
+    omega (arith, length_push c.outcomes outcome, (fronts o ch result done a).0, old.give) in
     ap (λ x. slice_set (board_of o) ch (record x { finished = added_up x.finished 1 })) (counts_at o ch)
     ∙ ap (λ k. slice_set (board_of o) ch (record { used = used c; finished = k })) n
     ∙ sym (board_with o ch _)
@@ -197,6 +191,5 @@ status_by_board v ch cookie counted legal =
     ap (λ (x : Counts). status_by x.used x.finished cookie) (sym (counts_at (object_of v) ch))
     ∙ ap (λ b. status_of b ch cookie) (sym is)
 
-pub counted_at : (p : Parts) → Holds p → (ch : ℕ) → IsCounted (channel (object_of (view_of p)) ch)
-counted_at p h ch =
-    counted_object (view_of p).base p.history (counted_base p.base h.sound.opens) h.sound.legal ch
+pub counted_at : (p : Parts) → Holds p → (ch : ℕ) → IsCounted (state_in p ch)
+counted_at p h ch = counted_object (view_of p).base p.history (counted_base p.base h.sound.opens) h.sound.legal ch

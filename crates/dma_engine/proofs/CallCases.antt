@@ -7,12 +7,12 @@ use Rattle.std.proofs.{lemmas.List.length_push, lemmas.List.length-drop, lemmas.
 use Rattle.dma_mem.specs.declared.call.Call.TheVariants.{Write, Read, Submit, Issue, Pause, Resume, Terminate, Checkpoint}
 use Rattle.dma_mem.specs.{Places.Descriptor, Places.lies_below, Places.writes, declared.call.Call.Call, declared.segment.Segment.Segment}
 use Rattle.dma_engine.specs.declared.call.Reply.TheVariants.{Done, Bytes, Cookie, Count, Refused}
-use Rattle.dma_engine.specs.declared.entry.Entry.TheVariants.{Wrote, ReadBack, Submitted, Issued}
+use Rattle.dma_engine.specs.declared.entry.Entry.TheVariants.{Wrote, ReadBack, Submitted, Issued, Terminated}
 use Rattle.dma_engine.specs.declared.fault.EngineFault.TheVariants.{OutOfMemoryRange, Busy, Running, NoChannel, CookiesSpent, NoMemory}
-use Rattle.dma_engine.specs.Object.{channel, used, unfinished, last_cookie, Allows}
-use Rattle.dma_engine.specs.View.{View, RunningTransfer, object_of, size, channels}
+use Rattle.dma_engine.specs.Object.{used, unfinished, last_cookie, Allows}
+use Rattle.dma_engine.specs.View.{View, RunningTransfer, object_of, size, channels, state_at}
 use Rattle.dma_engine.specs.Answer.{CallAnswers, answer, reply_of, takes_memory, stores_base, checkpointed, write_fault, read_fault, range_fault, channel_fault}
-use Rattle.dma_engine.specs.Answer.{submit_fault, cause, checked, busy, first_running, with_pause, is_started, terminated}
+use Rattle.dma_engine.specs.Answer.{submit_fault, cause, checked, busy, first_running, with_pause, is_started, terminated, done_on}
 use Rattle.dma_engine.specs.{declared.call.Reply.Reply, declared.entry.Entry.Entry, declared.fault.EngineFault.EngineFault, Turn.with_entry}
 use Rattle.dma_engine.specs.{inner.Accesses.named}
 use Rattle.dma_engine.proofs.JoinedCalls.{answers_so}
@@ -131,11 +131,13 @@ channel_there v ch h = let e : nat_le (channels v) ch ≡ false = lt-leb _ _ h i
 pub channel_open : (v : View) (ch : ℕ) → channel_fault v ch ≡ None → ch < channels v
 channel_open v ch none = leb-false _ _ (cause_none (nat_le (channels v) ch) NoChannel None none).0
 
-pub issue_answer : (v : View) (ch : ℕ) → ch < channels v → let c = channel (object_of v) ch in
-    answer v (Issue ch) ≡ (Count (used c - c.issued), with_entry v (Issued ch))
+pub issue_answer : (v : View) (ch : ℕ) → ch < channels v → let c = state_at v ch in answer v (Issue ch) ≡ (Count (used c - c.issued), with_entry v (Issued ch))
 issue_answer v ch h = rw (channel_there v ch h) refl
 
-pub issue_done : (v w : View) (ch count : ℕ) → ch < channels v → count ≡ used (channel (object_of v) ch) - (channel (object_of v) ch).issued
+pub issue_starved : (v : View) (ch : ℕ) → ch < channels v → CallAnswers v (Issue ch) (Refused NoMemory) v
+issue_starved v ch h = starved v (Issue ch) _ _ (Issued ch) (issue_answer v ch h) refl
+
+pub issue_done : (v w : View) (ch count : ℕ) → ch < channels v → count ≡ used (state_at v ch) - (state_at v ch).issued
     → w ≡ with_entry v (Issued ch) → CallAnswers v (Issue ch) (Count count) w
 issue_done v w ch count h n is = ap (λ x. (Count count, x)) is ∙ ap (λ k. (Count k, with_entry v (Issued ch))) n ∙ sym (issue_answer v ch h)
 
@@ -148,29 +150,31 @@ pub paused_done : (v w : View) (ch : ℕ) (paused : Bool) → ch < channels v �
 paused_done v w ch true h is = rw (channel_there v ch h, is) refl
 paused_done v w ch false h is = rw (channel_there v ch h, is) refl
 
-pub terminate_answer : (v : View) (ch : ℕ) → ch < channels v → answer v (Terminate ch) ≡ (Count (unfinished (channel (object_of v) ch)), terminated v ch)
+pub terminate_answer : (v : View) (ch : ℕ) → ch < channels v → answer v (Terminate ch) ≡ (Count (unfinished (state_at v ch)), terminated v ch)
 terminate_answer v ch h = rw (channel_there v ch h) refl
 
-pub terminate_done : (v w : View) (ch count : ℕ) → ch < channels v → count ≡ unfinished (channel (object_of v) ch) → w ≡ terminated v ch
+pub terminate_starved : (v : View) (ch : ℕ) → ch < channels v → CallAnswers v (Terminate ch) (Refused NoMemory) v
+terminate_starved v ch h = starved v (Terminate ch) _ _ (Terminated ch (done_on v ch) (unfinished (state_at v ch))) (terminate_answer v ch h) refl
+
+pub terminate_done : (v w : View) (ch count : ℕ) → ch < channels v → count ≡ unfinished (state_at v ch) → w ≡ terminated v ch
     → CallAnswers v (Terminate ch) (Count count) w
 terminate_done v w ch count h n is = ap (λ x. (Count count, x)) is ∙ ap (λ k. (Count k, terminated v ch)) n ∙ sym (terminate_answer v ch h)
 
 -- ---- submit
 
-pub submit_done : (v w : View) (ch cookie : ℕ) (t : Descriptor) → submit_fault v ch t ≡ None → cookie ≡ used (channel (object_of v) ch) + 1
+pub submit_done : (v w : View) (ch cookie : ℕ) (t : Descriptor) → submit_fault v ch t ≡ None → cookie ≡ used (state_at v ch) + 1
     → w ≡ with_entry v (Submitted ch t cookie) → CallAnswers v (Submit ch t) (Cookie cookie) w
 submit_done v w ch cookie t none number is =
-    let given : answer v (Submit ch t) ≡ (Cookie (used (channel (object_of v) ch) + 1), with_entry v (Submitted ch t (used (channel (object_of v) ch) + 1))) =
-    rw none refl in
+    let given : answer v (Submit ch t) ≡ (Cookie (used (state_at v ch) + 1), with_entry v (Submitted ch t (used (state_at v ch) + 1))) = rw none refl in
     ap (λ x. (Cookie cookie, x)) is ∙ ap (λ k. (Cookie k, with_entry v (Submitted ch t k))) number ∙ sym given
 
 -- If nothing refuses a submit, its channel exists, the transfer lies in the memory, and a cookie is left.
 pub submit_open : (v : View) (ch : ℕ) (t : Descriptor) → submit_fault v ch t ≡ None → (ch < channels v) × (lies_below t (size v) ≡ true)
-    × (used (channel (object_of v) ch) < last_cookie)
+    × (used (state_at v ch) < last_cookie)
 submit_open v ch t none =
     let first = cause_none (nat_le (channels v) ch) NoChannel _ none in
     let second = cause_none (not (lies_below t (size v))) OutOfMemoryRange _ first.1 in
-    let third = cause_none (nat_le last_cookie (used (channel (object_of v) ch))) CookiesSpent None second.1 in
+    let third = cause_none (nat_le last_cookie (used (state_at v ch))) CookiesSpent None second.1 in
     (leb-false _ _ first.0, not-false (lies_below t (size v)) second.0, leb-false _ _ third.0)
 
 -- ---- a submit that is checked first
@@ -179,18 +183,18 @@ pub check_out : (v : View) (ch n : ℕ) (t : Descriptor) → ch < channels v →
     → Err OutOfMemoryRange ≡ checked (submit_fault v ch t) n
 check_out v ch n t h out = let e : nat_le (channels v) ch ≡ false = lt-leb _ _ h in rw (e, out) refl
 
-pub check_spent : (v : View) (ch n : ℕ) (t : Descriptor) → ch < channels v → lies_below t (size v) ≡ true → last_cookie ≤ used (channel (object_of v) ch)
+pub check_spent : (v : View) (ch n : ℕ) (t : Descriptor) → ch < channels v → lies_below t (size v) ≡ true → last_cookie ≤ used (state_at v ch)
     → Err CookiesSpent ≡ checked (submit_fault v ch t) n
 check_spent v ch n t h below spent =
     let e : nat_le (channels v) ch ≡ false = lt-leb _ _ h in
-    let f : nat_le last_cookie (used (channel (object_of v) ch)) ≡ true = le-leb _ _ spent in
+    let f : nat_le last_cookie (used (state_at v ch)) ≡ true = le-leb _ _ spent in
     rw (e, below, f) refl
 
-pub check_fine : (v : View) (ch n : ℕ) (t : Descriptor) → ch < channels v → lies_below t (size v) ≡ true → used (channel (object_of v) ch) < last_cookie
+pub check_fine : (v : View) (ch n : ℕ) (t : Descriptor) → ch < channels v → lies_below t (size v) ≡ true → used (state_at v ch) < last_cookie
     → Ok n ≡ checked (submit_fault v ch t) n
 check_fine v ch n t h below few =
     let e : nat_le (channels v) ch ≡ false = lt-leb _ _ h in
-    let f : nat_le last_cookie (used (channel (object_of v) ch)) ≡ false = lt-leb _ _ few in
+    let f : nat_le last_cookie (used (state_at v ch)) ≡ false = lt-leb _ _ few in
     rw (e, below, f) refl
 
 pub checked_none : (x : Option EngineFault) (n k : ℕ) → Ok k ≡ checked x n → x ≡ None

@@ -9,8 +9,8 @@ use Rattle.dma_engine.specs.declared.call.Reply.TheVariants.{Done, Bytes, Cookie
 use Rattle.dma_engine.specs.declared.entry.Entry.TheVariants.{Wrote, ReadBack, Submitted, Issued, Passed, Signalled, Finished, Terminated, Marked, Unmarked}
 use Rattle.dma_engine.specs.Answer.{CallAnswers, AreAnswers, Extends, answer, unless, write_fault, read_fault, submit_fault, channel_fault, mark_fault}
 use Rattle.dma_engine.specs.Answer.{raise_fault, with_pause, terminated, done_on, checkpoint_fault, checkpointed, is_checkpoint, has_checkpoint}
-use Rattle.dma_engine.specs.{declared.call.Reply.Reply, declared.entry.Entry.Entry, declared.entry.Signaller.TheVariants.Channel}
-use Rattle.dma_engine.specs.{declared.entry.Signaller.TheVariants.Host, declared.fault.EngineFault.EngineFault, Object.channel, Object.used, Object.unfinished}
+use Rattle.dma_engine.specs.{declared.call.Reply.Reply, declared.entry.Entry.Entry, declared.entry.Signaller.TheVariants.Channel, View.state_at}
+use Rattle.dma_engine.specs.{declared.entry.Signaller.TheVariants.Host, declared.fault.EngineFault.EngineFault, Object.used, Object.unfinished}
 use Rattle.dma_engine.specs.{View.View, View.object_of, Turn.turn, Turn.with_entry, Laws.IsQuiet}
 use Rattle.dma_engine.proofs.{AnswerCounts.answered, Turns.answer_is, Turns.turn_cases}
 
@@ -77,15 +77,15 @@ answer_extends v (Read addr len) o =
     let bytes = take len (drop addr (object_of v).image) in
     unless_extends v (read_fault v addr len) (Bytes bytes, with_entry v (ReadBack addr bytes)) (one v (ReadBack addr bytes))
 answer_extends v (Submit ch t) o =
-    let cookie = used (channel (object_of v) ch) + 1 in
+    let cookie = used (state_at v ch) + 1 in
     unless_extends v (submit_fault v ch t) (Cookie cookie, with_entry v (Submitted ch t cookie)) (one v (Submitted ch t cookie))
 answer_extends v (Issue ch) o =
-    let c = channel (object_of v) ch in
+    let c = state_at v ch in
     unless_extends v (channel_fault v ch) (Count (used c - c.issued), with_entry v (Issued ch)) (one v (Issued ch))
 answer_extends v (Pause ch) o = unless_extends v (channel_fault v ch) (Done, with_pause v ch true) (still v)
 answer_extends v (Resume ch) o = unless_extends v (channel_fault v ch) (Done, with_pause v ch false) (still v)
 answer_extends v (Terminate ch) o =
-    let count = unfinished (channel (object_of v) ch) in
+    let count = unfinished (state_at v ch) in
     unless_extends v (channel_fault v ch) (Count count, terminated v ch) (one v (Terminated ch (done_on v ch) count))
 answer_extends v (Step ch) o = turn_extends v ch
 answer_extends v (Mark kind segment) o = unless_extends v (mark_fault segment) (Done, with_entry v (Marked kind segment)) (one v (Marked kind segment))

@@ -12,7 +12,7 @@ use Rattle.dma_chan.proofs.LayerLaws.{survives}
 use Rattle.dma_engine.specs.Object.{Object, ChannelState, channel, empty_channel, after, front}
 use Rattle.dma_engine.specs.View.{View, ChannelSchedule, RunningTransfer, Fits, Agrees, AreFree, IsSound, running_in, runs, idle, object_of, memory_of}
 use Rattle.dma_engine.specs.View.{memory_shown}
-use Rattle.dma_engine.specs.inner.Holds.{HasSubmitted, Holds, IsPrepared, IsQueue, IsRun, Parts, view_of, schedule_of, taken_of}
+use Rattle.dma_engine.specs.inner.Holds.{HasSubmitted, Holds, IsPrepared, IsQueue, IsRun, Parts, view_of, schedule_of, taken_of, object_in, state_in, runs_in}
 use Rattle.dma_engine.specs.{declared.entry.Entry.Entry, declared.queue.Queue.Queue, History.object_after, Turn.with_entry, inner.Ranges.AreOfRunning}
 use Rattle.dma_engine.proofs.{Histories.object_after_append, Queues.HoldsAt, Queues.slice_get_push}
 
@@ -29,8 +29,7 @@ pub AreFree_sym : (x y : Option RunningTransfer) → AreFree x y → AreFree y x
 AreFree_sym None None h = tt
 AreFree_sym None (Some s) h = tt
 AreFree_sym (Some r) None h = tt
-AreFree_sym (Some r) (Some s) h =
-    free_true s.transfer r.transfer (IsFree_sym r.transfer s.transfer (is_free_of_true r.transfer s.transfer h))
+AreFree_sym (Some r) (Some s) h = free_true s.transfer r.transfer (IsFree_sym r.transfer s.transfer (is_free_of_true r.transfer s.transfer h))
 
 -- ---- what a machine runs, and a queue, when something else changes
 
@@ -87,13 +86,13 @@ with_entry_at p e memory events marks = record p { memory = memory; events = eve
 
 pub record EntersWith (p : Parts) (e : Entry) (memory : List ℕ) (flags : List Bool) (marked : MarkList) : Type 0 where
   pub sound : IsSound (with_entry (view_of p) e)
-  pub stay : (after (object_of (view_of p)) e).channels ≡ (object_of (view_of p)).channels
-  pub shown : memory ≡ memory_shown (after (object_of (view_of p)) e) (view_of p).schedule
-  pub events : flags ≡ (after (object_of (view_of p)) e).events
-  pub marks : marked ≡ (after (object_of (view_of p)) e).marks
+  pub stay : (after (object_in p) e).channels ≡ (object_in p).channels
+  pub shown : memory ≡ memory_shown (after (object_in p) e) (view_of p).schedule
+  pub events : flags ≡ (after (object_in p) e).events
+  pub marks : marked ≡ (after (object_in p) e).marks
   pub machines : (ch : ℕ) (d : Queue) → ch < length p.queues →
-      IsRun p.memory (slice_index_or p.queues ch d).channel (channel (object_of (view_of p)) ch) →
-      IsRun memory (slice_index_or p.queues ch d).channel (channel (object_of (view_of p)) ch)
+      IsRun p.memory (slice_index_or p.queues ch d).channel (state_in p ch) →
+      IsRun memory (slice_index_or p.queues ch d).channel (state_in p ch)
 
 pub holds_entered : (p : Parts) (e : Entry) (memory : List ℕ) (events : List Bool) (marks : MarkList) → Holds p → EntersWith p e memory events marks
     → Holds (with_entry_at p e memory events marks)
@@ -137,7 +136,7 @@ holds_pages p more h keeps = record {
   events = h.events;
   marks = h.marks;
   each = h.each;
-  prepared = λ ch. prepared_more p.made more (runs (object_of (view_of p)) (view_of p).schedule ch) keeps (h.prepared ch);
+  prepared = λ ch. prepared_more p.made more (runs_in p ch) keeps (h.prepared ch);
   ranges = h.ranges;
 }
 
@@ -229,21 +228,21 @@ view_changed p ch q memory events history steps =
 pub record LeadsTo (p : Parts) (ch : ℕ) (history : List Entry) (o : Object) (state : ChannelState) : Type 0 where
   pub becomes : object_after (view_of p).base history ≡ o
   pub grows : (k : ℕ) (e : Entry) → slice_get p.history k ≡ Some e → slice_get history k ≡ Some e
-  pub marks : (object_of (view_of p)).marks ≡ o.marks
-  pub sets : Sets (object_of (view_of p)) o ch state
+  pub marks : (object_in p).marks ≡ o.marks
+  pub sets : Sets (object_in p) o ch state
   pub open sets use *
 
 -- The present history leads to the present object, and with one more entry to the object after it.
-pub leads_still : (p : Parts) (ch : ℕ) → LeadsTo p ch p.history (object_of (view_of p)) (channel (object_of (view_of p)) ch)
+pub leads_still : (p : Parts) (ch : ℕ) → LeadsTo p ch p.history (object_in p) (state_in p ch)
 leads_still p ch = record { becomes = refl; grows = λ k e is. is; marks = refl; sets = record { many = refl; here = refl; others = λ c f. refl } }
 
-pub leads_on : (p : Parts) (ch : ℕ) (e : Entry) (state : ChannelState) → let o = object_of (view_of p) in ch < length o.channels →
+pub leads_on : (p : Parts) (ch : ℕ) (e : Entry) (state : ChannelState) → let o = object_in p in ch < length o.channels →
     o.marks ≡ (after o e).marks → (after o e).channels ≡ slice_set o.channels ch state → LeadsTo p ch (p.history ++ e ∷ []) (after o e) state
 leads_on p ch e state there marks is = record {
   becomes = object_after_append p.base p.history (e ∷ []);
   grows = λ k x. slice_get_push p.history e x k;
   marks = marks;
-  sets = sets (object_of (view_of p)) (after (object_of (view_of p)) e) ch state there is;
+  sets = sets (object_in p) (after (object_in p) e) ch state there is;
 }
 
 -- What must hold after a change at one channel, so that the engine keeps what it keeps (`Holds`).
@@ -257,8 +256,8 @@ pub record ChangesTo (p : Parts) (ch : ℕ) (q : Queue) (memory : List ℕ) (fla
   pub prepared : IsPrepared p.made (running_in ch state (schedule_of q).taken)
   pub ranges : AreOfRunning q.ranges (running_in ch state (schedule_of q).taken)
   pub machines : (c : ℕ) (d : Queue) → c < length p.queues → c ≢ ch →
-      IsRun p.memory (slice_index_or p.queues c d).channel (channel (object_of (view_of p)) c) →
-      IsRun memory (slice_index_or p.queues c d).channel (channel (object_of (view_of p)) c)
+      IsRun p.memory (slice_index_or p.queues c d).channel (state_in p c) →
+      IsRun memory (slice_index_or p.queues c d).channel (state_in p c)
 
 pub holds_changed : {p : Parts} {ch : ℕ} {old : Queue} → HoldsAt p ch old
     → (q : Queue) (memory : List ℕ) (events : List Bool) (history : List Entry) (steps : ℕ) (o : Object) (state : ChannelState)
@@ -313,5 +312,4 @@ holds_changed {p} {ch} at q memory events history steps o state w =
 -- The schedule stays the same if that of the changed queue does.
 pub schedule_kept : {p : Parts} {ch : ℕ} {q : Queue} → HoldsAt p ch q → (r : Queue) → schedule_of r ≡ schedule_of q
     → slice_set (view_of p).schedule ch (schedule_of r) ≡ (view_of p).schedule
-schedule_kept {p} {ch} {q} at r same =
-    ap (slice_set (view_of p).schedule ch) (same ∙ sym at.schedule_is) ∙ set-get_or (view_of p).schedule ch idle
+schedule_kept {p} {ch} {q} at r same = ap (slice_set (view_of p).schedule ch) (same ∙ sym at.schedule_is) ∙ set-get_or (view_of p).schedule ch idle

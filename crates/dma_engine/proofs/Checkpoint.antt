@@ -9,7 +9,7 @@ use Rattle.dma_mem.proofs.PageImages.{put_none}
 use Rattle.dma_engine.specs.Object.{used, finished_all, Object, ChannelState, base_from, forget, channel, empty_channel, finished}
 use Rattle.dma_engine.specs.Answer.{checkpoint_fault, checkpointed, unless}
 use Rattle.dma_engine.specs.View.{View, ChannelSchedule, RunningTransfer, Fits, runs, running_in, running, idle, object_of, memory_of, IsSound, with_stored}
-use Rattle.dma_engine.specs.inner.Holds.{Holds, IsPrepared, IsQueue, Parts, view_of, schedule_of, taken_of, queue_forgotten}
+use Rattle.dma_engine.specs.inner.Holds.{Holds, IsPrepared, IsQueue, Parts, view_of, schedule_of, taken_of, queue_forgotten, object_in, state_in}
 use Rattle.dma_engine.specs.{declared.queue.Queue.Queue, declared.call.Reply.Reply, declared.call.Reply.TheVariants.Done}
 use Rattle.dma_engine.specs.{declared.call.Reply.TheVariants.Refused, declared.fault.EngineFault.EngineFault, Laws.CheckpointsKeep, Room.no_room}
 use Rattle.dma_engine.specs.{inner.Inside.queue_room, inner.Ranges.AreOfRunning, Ticks.board_of, Ticks.counts_of}
@@ -21,10 +21,10 @@ use Rattle.dma_engine.proofs.{Changes.run_none, QueueCalls.shown_both, Queues.Ho
 
 -- ---- the queues after it
 
-queue_next : {p : Parts} {ch : ℕ} {q : Queue} → HoldsAt p ch q → taken_of q.channel ≡ None → let c = channel (object_of (view_of p)) ch in
+queue_next : {p : Parts} {ch : ℕ} {q : Queue} → HoldsAt p ch q → taken_of q.channel ≡ None → let c = state_in p ch in
     IsQueue ch (forget c).submitted [] p.memory (queue_forgotten q) (forget c)
 queue_next {p} {ch} {q} at none =
-    let c = channel (object_of (view_of p)) ch in
+    let c = state_in p ch in
     let t = at.tied in
     let counted = counted_at p at.holds ch in
     record {
@@ -44,14 +44,14 @@ queue_next {p} {ch} {q} at none =
 -- ---- the parts after it
 
 abbrev pub parts_forgotten : Parts → Parts
-parts_forgotten p = record p { base = base_from (object_of (view_of p)); history = []; queues = map queue_forgotten p.queues }
+parts_forgotten p = record p { base = base_from (object_in p); history = []; queues = map queue_forgotten p.queues }
 
 same_schedule : (qs : List Queue) → map schedule_of (map queue_forgotten qs) ≡ map schedule_of qs
 same_schedule [] = refl
 same_schedule (q ∷ qs) = ap (λ l. schedule_of q ∷ l) (same_schedule qs)
 
 pub view_next : (p : Parts) → view_of (parts_forgotten p) ≡ checkpointed (view_of p)
-view_next p = ap (λ s. record { base = base_from (object_of (view_of p)); history = []; steps = p.steps; schedule = s }) (same_schedule p.queues)
+view_next p = ap (λ s. record { base = base_from (object_in p); history = []; steps = p.steps; schedule = s }) (same_schedule p.queues)
 
 -- nothing is taken on any channel
 nothing_taken : (o : Object) (s : List ChannelSchedule) (ch : ℕ) → Fits o s → NothingRuns o s → (slice_index_or s ch idle).taken ≡ None
@@ -60,7 +60,7 @@ nothing_taken o s ch h none = elim (cases_lt ch (length o.channels)) [
   | inr past ↦ ap (λ (x : ChannelSchedule). x.taken) (get_or_past s ch idle (omega (arith, past, h.many)))
 ]
 
-pub holds_next : (p : Parts) → Holds p → NothingRuns (object_of (view_of p)) (view_of p).schedule → Holds (parts_forgotten p)
+pub holds_next : (p : Parts) → Holds p → NothingRuns (object_in p) (view_of p).schedule → Holds (parts_forgotten p)
 holds_next p h none =
     let v : View = view_of p in
     let o = object_of v in
@@ -98,10 +98,10 @@ find_any : (l : List RunningTransfer) → find (λ (r : RunningTransfer). true) 
 find_any [] h = refl
 find_any (r ∷ rs) h = absurd cc
 
-pub image_now : (p : Parts) → Holds p → NothingRuns (object_of (view_of p)) (view_of p).schedule → p.memory ≡ (object_of (view_of p)).image
+pub image_now : (p : Parts) → Holds p → NothingRuns (object_in p) (view_of p).schedule → p.memory ≡ (object_in p).image
 unfolding after_moves
 image_now p h none =
-    let o = object_of (view_of p) in
+    let o = object_in p in
     h.shown ∙ ap (λ l. over o.image (map with_stored l)) (find_any (running o (view_of p).schedule) none) ∙ put_none o.image
 
 -- ---- one queue after another

@@ -5,19 +5,18 @@ use Rattle.std.proofs.lemmas.Bool.{le-ltb, lt-ltb, ltb-false, ltb-true}
 use Rattle.std.proofs.lemmas.Option.{get_or_from_slice_get, slice_get-get_or}
 use Rattle.dma_mem.specs.Places.{Descriptor}
 use Rattle.dma_engine.specs.Object.{Object, ChannelState, channel, front, issued_front, finished, no_transfer, used}
-use Rattle.dma_engine.specs.View.{ChannelSchedule, RunningTransfer, object_of, runs, running_in, running, idle}
+use Rattle.dma_engine.specs.View.{ChannelSchedule, RunningTransfer, runs, running_in, running, idle}
 use Rattle.dma_engine.specs.{declared.queue.Queue.Queue, declared.access.Ranges.Ranges, inner.Ranges.AreOfRunning, inner.Ranges.HasRangesOf}
-use Rattle.dma_engine.specs.{inner.Accesses.named, inner.Found.front_in, inner.Found.transfer_at, inner.Holds.Parts, inner.Holds.view_of}
+use Rattle.dma_engine.specs.{inner.Accesses.named, inner.Found.front_in, inner.Found.transfer_at, inner.Holds.Parts, inner.Holds.state_in}
 use Rattle.dma_engine.proofs.Queues.{Front, HoldsAt, transfer_found}
 use Rattle.dma_engine.proofs.{Boards.counted_at, ConflictsByRanges.kept_ranges, ConflictsByRanges.no_ranges, WhatRuns.below, WhatRuns.find_here}
 
 -- ---- the issued front
 
 -- if fewer are finished than issued, there is an issued front
-pub front_queued : {p : Parts} {ch : ℕ} {q : Queue} → HoldsAt p ch q → q.forgotten + length q.outcomes.items < q.issued
-    → Front (channel (object_of (view_of p)) ch) (λ t. Unit {0})
+pub front_queued : {p : Parts} {ch : ℕ} {q : Queue} → HoldsAt p ch q → q.forgotten + length q.outcomes.items < q.issued → Front (state_in p ch) (λ t. Unit {0})
 front_queued {p} {ch} {q} at open_one =
-    let c = channel (object_of (view_of p)) ch in
+    let c = state_in p ch in
     let counted = counted_at p at.holds ch in
     let before : finished c < c.issued = omega (arith, ap length at.tied.outcomes, at.tied.forgotten, at.tied.issued, open_one) in
     let inside : finished c < used c = omega (arith, counted.issue, before) in
@@ -26,11 +25,10 @@ front_queued {p} {ch} {q} at open_one =
     record { transfer = _; is = is; issued = rw e is; holds = tt; within = inside; below = before }
 
 -- and it is found in the base or in the history
-pub front_found : {p : Parts} {ch : ℕ} {q : Queue} → HoldsAt p ch q
-    → front_in q (channel p.base ch).submitted p.history ≡ issued_front (channel (object_of (view_of p)) ch)
+pub front_found : {p : Parts} {ch : ℕ} {q : Queue} → HoldsAt p ch q → front_in q (channel p.base ch).submitted p.history ≡ issued_front (state_in p ch)
 front_found {p} {ch} {q} at = by (nat_lt (length q.outcomes.items) (q.issued - q.forgotten)) refl where
   c : ChannelState
-  c = channel (object_of (view_of p)) ch
+  c = state_in p ch
 
   n : ℕ
   n = length q.outcomes.items
@@ -47,7 +45,7 @@ front_found {p} {ch} {q} at = by (nat_lt (length q.outcomes.items) (q.issued - q
       let f = front_queued at (omega (arith, below)) in
       let there : n < length c.submitted = omega (arith, f.within, many) in
       let found : transfer_at kept p.history q.indices.items n ≡ Some f.transfer =
-      transfer_found ch kept p.history p.memory q c n at.tied there
+      transfer_found at.tied n there
       ∙ ap (λ k. Some (slice_index_or c.submitted k no_transfer)) many
       ∙ ap (λ t. Some t) (get_or_from_slice_get c.submitted (length c.outcomes) f.transfer no_transfer f.is) in
       rw (e, f.issued) found

@@ -8,7 +8,7 @@ use Rattle.dma_mem.specs.Places.{Descriptor}
 use Rattle.dma_engine.specs.Laws.{SubmitsAdd, TerminatesAdd, BoardsCount, StatusByTicks, BaseCountsBounded, TicksAtMostEntries, TicksNameChannels}
 use Rattle.dma_engine.specs.Object.{Allows, ChannelState, FrontIs, Object, after, channel, empty_channel, last_cookie, used, finished, finished_all, unfinished}
 use Rattle.dma_engine.specs.Object.{aborted, with_transfer, with_all_aborted, with_front_laid}
-use Rattle.dma_engine.specs.{declared.call.Reply.Reply, declared.call.Reply.TheVariants.Cookie, declared.call.Reply.TheVariants.Count}
+use Rattle.dma_engine.specs.{declared.call.Reply.Reply, declared.call.Reply.TheVariants.Cookie, declared.call.Reply.TheVariants.Count, View.state_at}
 use Rattle.dma_engine.specs.{declared.call.Reply.TheVariants.Refused, declared.fault.EngineFault.EngineFault, declared.entry.Entry.Entry}
 use Rattle.dma_engine.specs.{declared.outcome.TransResult.TransResult, declared.outcome.TransResult.TheVariants.Aborted, Answer.unless, Answer.channel_fault}
 use Rattle.dma_engine.specs.{Answer.done_on, Answer.submit_fault, Answer.terminated, History.IsLegal, Ticks.Counts, Ticks.Finished, Ticks.Submitted}
@@ -37,7 +37,7 @@ submits_add v w ch cookie t h =
     let number : cookie ≡ used c + 1 = let both : Cookie cookie ≡ Cookie (used c + 1) = ap (λ (x : Reply × View). x.0) a.1 in cc in
     let is : w ≡ with_entry v e = ap (λ (x : Reply × View). x.1) a.1 in
     let becomes : object_of w ≡ after o e = ap object_of is ∙ object_one v e in
-    let here : channel (object_of w) ch ≡ with_transfer c t = ap (λ (x : Object). channel x ch) becomes
+    let here : state_at w ch ≡ with_transfer c t = ap (λ (x : Object). channel x ch) becomes
     ∙ get_or-set_same o.channels ch (with_transfer c t) empty_channel less in
     let many : channels w ≡ channels v = ap (λ (x : Object). length x.channels) becomes ∙ channels-after o e in (
       record {
@@ -62,7 +62,7 @@ terminates_add v w ch count h =
     let number : count ≡ m = let both : Count count ≡ Count m = ap (λ (x : Reply × View). x.0) a.1 in cc in
     let is : w ≡ terminated v ch = ap (λ (x : Reply × View). x.1) a.1 in
     let becomes : object_of w ≡ after o e = ap object_of is ∙ object_one v e in
-    let here : channel (object_of w) ch ≡ with_all_aborted c done = ap (λ (x : Object). channel x ch) becomes
+    let here : state_at w ch ≡ with_all_aborted c done = ap (λ (x : Object). channel x ch) becomes
     ∙ get_or-set_same o.channels ch (with_all_aborted c done) empty_channel less in
     let many : channels w ≡ channels v = ap (λ (x : Object). length x.channels) becomes ∙ channels-after o e in
     let more : finished (with_all_aborted c done) ≡ finished c + m =

@@ -1,15 +1,16 @@
 -- What an engine keeps when an entry is added that changes no channel: a write, a read, a mark, an unmark, a raise.
-use Rattle.std.proofs.Common.{◌≡◌, ◌≢◌, ℕ, ◌+◌, ◌<◌, ◌≤◌, List, [], ◌∷◌, ◌++◌, length, None, true, refl, ap, sym, ◌∙◌, arith, take, drop, inr, subst}
+use Rattle.std.proofs.Common.{◌≡◌, ◌≢◌, ℕ, ◌+◌, ◌<◌, ◌≤◌, List, [], ◌∷◌, ◌++◌, length, None, true, refl, ap, sym, ◌∙◌, arith, take, drop, inr, subst, Bool}
 use Rattle.std.specs.{Prelude.slice_index, Prelude.slice_index_or, Prelude.slice_set, List.Contains, List.range_with_len, Map.keys_of}
 use Rattle.std.proofs.{lemmas.List.get_or_default, lemmas.List.FromFn.length-range_with_len, lemmas.Map.Made.keys_of-zip}
 use Rattle.dma_mem.specs.{Image.put, Image.bytes_at, Places.touches, Places.writes, declared.marks.MarkKind.MarkKind, declared.segment.Segment.Segment}
 use Rattle.dma_mem.proofs.{ImagePut.get_or_put_other, SharedPlaces.touches_false}
 use Rattle.dma_engine.specs.declared.entry.Entry.TheVariants.{Wrote, ReadBack, Signalled, Marked, Unmarked}
-use Rattle.dma_engine.specs.View.{View, ChannelSchedule, running, memory_shown, object_of, channels, memory_of, IsSound}
+use Rattle.dma_engine.specs.View.{View, ChannelSchedule, running, memory_shown, object_of, channels, memory_of}
 use Rattle.dma_engine.specs.{declared.entry.Signaller.TheVariants.Host, Object.Object, Object.channel, Object.after, Answer.write_fault, Answer.read_fault}
-use Rattle.dma_engine.specs.{inner.Holds.Holds, inner.Holds.Parts, inner.Holds.view_of, Turn.with_entry}
+use Rattle.dma_engine.specs.{inner.Holds.Holds, inner.Holds.Parts, inner.Holds.view_of, inner.Holds.object_in, Object.Allows, declared.entry.Entry.Entry}
 use Rattle.dma_engine.proofs.{CallCases.range_open, CallCases.read_entry, Changes.holds_entered, Changes.run_kept, Changes.with_entry_at, Memory.shown_read}
 use Rattle.dma_engine.proofs.{Memory.shown_wrote, Queues.holds_at, Queues.many_queues, Queues.runs_at, StaysSound.entered_sound, WhatRuns.find_none_at}
+use Rattle.dma_mem.specs.Marking.{MarkList}
 
 -- ---- a write
 
@@ -53,57 +54,40 @@ read_seen p v addr n bytes h is free read =
     read ∙ ap (λ m. take n (drop addr m)) (h.shown ∙ ap memory_of is)
     ∙ shown_read (object_of v) v.schedule addr n (range_open v addr n (λ s t. writes t s) free).1
 
-pub holds_read : (p : Parts) (v : View) (addr n : ℕ) (bytes : List ℕ) → Holds p → view_of p ≡ v → read_fault v addr n ≡ None
-    → bytes ≡ take n (drop addr p.memory) → Holds (with_entry_at p (ReadBack addr bytes) p.memory p.events p.marks)
-holds_read p v addr n bytes h is free read =
-    holds_entered p (ReadBack addr bytes) p.memory p.events p.marks h (record {
-      sound = subst (λ (w : View). IsSound (with_entry w (ReadBack addr bytes))) (sym is)
-          (entered_sound v (ReadBack addr bytes) (subst IsSound is h.sound) (read_entry v addr n bytes free (read_seen p v addr n bytes h is free read)) refl);
-      stay = refl;
-      shown = h.shown;
-      events = h.events;
-      marks = h.marks;
-      machines = λ ch d less machine. machine;
-    })
-
--- ---- marks and events
-
 shown_same : (o p : Object) (s : List ChannelSchedule) → o.image ≡ p.image → o.channels ≡ p.channels → memory_shown o s ≡ memory_shown p s
 unfolding running
 shown_same o p s image channels = rw (image, channels) refl
 
--- the memory that is shown depends only on the image and the channels
-pub holds_marked : (p : Parts) (kind : MarkKind) (s : Segment) → Holds p → s.len ≢ 0 → s.addr + s.len ≤ 4294967296
-    → Holds (with_entry_at p (Marked kind s) p.memory p.events (p.marks ++ (kind, s) ∷ []))
-holds_marked p kind s h some within =
-    holds_entered p (Marked kind s) p.memory p.events (p.marks ++ (kind, s) ∷ []) h (record {
-      sound = entered_sound (view_of p) (Marked kind s) h.sound (omega arith, within) refl;
-      stay = refl;
-      shown = h.shown ∙ shown_same (object_of (view_of p)) (after (object_of (view_of p)) (Marked kind s)) (view_of p).schedule refl refl;
-      events = h.events;
-      marks = ap (λ l. l ++ (kind, s) ∷ []) h.marks;
+-- an entry that changes neither the image nor a channel, on which the memory that is shown depends
+noted : (p : Parts) (e : Entry) (events : List Bool) (marks : MarkList) → Holds p → Allows (object_in p) e → let o = object_in p in o.image ≡ (after o e).image
+    → o.channels ≡ (after o e).channels → events ≡ (after o e).events → marks ≡ (after o e).marks → Holds (with_entry_at p e p.memory events marks)
+noted p e events marks h allowed image channels flags marked =
+    holds_entered p e p.memory events marks h (record {
+      sound = entered_sound (view_of p) e h.sound allowed channels;
+      stay = sym channels;
+      shown = h.shown ∙ shown_same (object_in p) (after (object_in p) e) (view_of p).schedule image channels;
+      events = flags;
+      marks = marked;
       machines = λ ch d less machine. machine;
     })
 
+pub holds_read : (p : Parts) (v : View) (addr n : ℕ) (bytes : List ℕ) → Holds p → view_of p ≡ v → read_fault v addr n ≡ None
+    → bytes ≡ take n (drop addr p.memory) → Holds (with_entry_at p (ReadBack addr bytes) p.memory p.events p.marks)
+holds_read p v addr n bytes h is free read =
+    noted p (ReadBack addr bytes) p.events p.marks h (subst (λ (w : View). Allows (object_of w) (ReadBack addr bytes)) (sym is)
+    (read_entry v addr n bytes free (read_seen p v addr n bytes h is free read))) refl refl h.events h.marks
+
+-- ---- marks and events
+
+pub holds_marked : (p : Parts) (kind : MarkKind) (s : Segment) → Holds p → s.len ≢ 0 → s.addr + s.len ≤ 4294967296
+    → Holds (with_entry_at p (Marked kind s) p.memory p.events (p.marks ++ (kind, s) ∷ []))
+holds_marked p kind s h some within =
+    noted p (Marked kind s) p.events (p.marks ++ (kind, s) ∷ []) h (omega arith, within) refl refl h.events (ap (λ l. l ++ (kind, s) ∷ []) h.marks)
+
 pub holds_unmarked : (p : Parts) → Holds p → Holds (with_entry_at p Unmarked p.memory p.events [])
-holds_unmarked p h =
-    holds_entered p Unmarked p.memory p.events [] h (record {
-      sound = entered_sound (view_of p) Unmarked h.sound tt refl;
-      stay = refl;
-      shown = h.shown ∙ shown_same (object_of (view_of p)) (after (object_of (view_of p)) Unmarked) (view_of p).schedule refl refl;
-      events = h.events;
-      marks = refl;
-      machines = λ ch d less machine. machine;
-    })
+holds_unmarked p h = noted p Unmarked p.events [] h tt refl refl h.events refl
 
 pub holds_raised : (p : Parts) (event : ℕ) → Holds p → event ≤ 31
     → Holds (with_entry_at p (Signalled Host event) p.memory (slice_set p.events event true) p.marks)
 holds_raised p event h small =
-    holds_entered p (Signalled Host event) p.memory (slice_set p.events event true) p.marks h (record {
-      sound = entered_sound (view_of p) (Signalled Host event) h.sound small refl;
-      stay = refl;
-      shown = h.shown ∙ shown_same (object_of (view_of p)) (after (object_of (view_of p)) (Signalled Host event)) (view_of p).schedule refl refl;
-      events = ap (λ l. slice_set l event true) h.events;
-      marks = h.marks;
-      machines = λ ch d less machine. machine;
-    })
+    noted p (Signalled Host event) (slice_set p.events event true) p.marks h small refl refl (ap (λ l. slice_set l event true) h.events) h.marks

@@ -10,11 +10,12 @@ use Rattle.dma_mem.specs.{declared.marks.MarkKind.TheVariants.Writing, Rules.IsT
 use Rattle.dma_chan.specs.{Compiled.cost, Traffic.member, Traffic.stored_after, Traffic.burst, Channel.ChannelValue, inner.At.IsAt, Programs.ProgramValue}
 use Rattle.dma_chan.proofs.ShapeLaws.{shape_is, stored_is}
 use Rattle.dma_engine.specs.declared.outcome.TransResult.TheVariants.{NoError, ReadFailed, WriteFailed, Aborted}
-use Rattle.dma_engine.specs.Object.{ChannelState, Allows, CanHaveStored, channel, front, issued_front, finished}
-use Rattle.dma_engine.specs.View.{View, RunningTransfer, Agrees, IsSound, channels, object_of, running_in, schedule_at, runs, ChannelSchedule, size}
+use Rattle.dma_engine.specs.Object.{ChannelState, Allows, CanHaveStored, front, issued_front, finished}
+use Rattle.dma_engine.specs.View.{View, RunningTransfer, Agrees, IsSound, channels, object_of, running_in, schedule_at, ChannelSchedule, size, state_at}
 use Rattle.dma_engine.specs.{declared.entry.Entry.TheVariants.Finished, declared.outcome.TransResult.TransResult, declared.queue.Queue.Queue, Answer.done_on}
 use Rattle.dma_engine.specs.{inner.Due.Finishes, inner.Holds.Parts, inner.Holds.view_of, inner.Holds.IsRun, declared.turn.Turn.TheVariants.Finished}
 use Rattle.dma_engine.proofs.{Queues.HoldsAt, Queues.front_where, Queues.runs_at, Queues.runs_front, Queues.taken_some, TransferRules.ruled_front}
+use Rattle.dma_engine.specs.inner.Holds.{state_in, runs_in}
 
 -- how many bytes a running transfer has stored, or 0 if nothing runs
 abbrev pub done_by : Option RunningTransfer → ℕ
@@ -62,12 +63,12 @@ pub record IsFront (c : ChannelState) (t : Descriptor) (n : ℕ) : Type 0 where
 -- what runs on a channel of a sound view is such a front
 pub record RunsAt (v : View) (ch n : ℕ) : Type 0 where
   pub transfer : Descriptor
-  pub it : IsFront (channel (object_of v) ch) transfer n
+  pub it : IsFront (state_at v ch) transfer n
   pub below : lies_below transfer (size v) ≡ true
 
 pub runs_at_law : (v : View) (ch n : ℕ) → IsSound v → ch < channels v → (schedule_at v ch).taken ≡ Some n → RunsAt v ch n
 runs_at_law v ch n h less taken =
-    let c = channel (object_of v) ch in
+    let c = state_at v ch in
     let agrees : Agrees c (Some n) = rw taken at (h.fits.each ch less) in
     let f = front_where c _ agrees.1 in
     let good = ruled_front v ch f.transfer h f.is in
@@ -81,10 +82,10 @@ runs_at_law v ch n h less taken =
 pub record Runs (p : Parts) (ch : ℕ) (q : Queue) : Type 0 where
   pub at : HoldsAt p ch q
   pub transfer : Descriptor
-  pub known : IsFront (channel (object_of (view_of p)) ch) transfer q.channel.taken
+  pub known : IsFront (state_in p ch) transfer q.channel.taken
   pub open known use *
-  pub runs_is : runs (object_of (view_of p)) (view_of p).schedule ch ≡ Some
-      (record { ch = ch; cookie = finished (channel (object_of (view_of p)) ch) + 1; transfer = transfer; taken = q.channel.taken })
+  pub runs_is : runs_in p ch ≡ Some
+      (record { ch = ch; cookie = finished (state_in p ch) + 1; transfer = transfer; taken = q.channel.taken })
   pub below : lies_below transfer (size (view_of p)) ≡ true
   pub machine : IsAt transfer q.channel.taken p.memory q.channel
 
@@ -105,7 +106,7 @@ running {p} {ch} {q} at loaded =
       known = f.it;
       runs_is = runs_at at f.transfer loaded f.it.is;
       below = f.below;
-      machine = machine_at p.memory q.channel (channel (object_of (view_of p)) ch) f.transfer loaded f.it.is at.tied.machine;
+      machine = machine_at p.memory q.channel (state_in p ch) f.transfer loaded f.it.is at.tied.machine;
     }
 
 -- ---- after one more instruction
@@ -151,24 +152,24 @@ not_signalled c t n f other =
 -- ---- its end
 
 -- the result that the next instruction gives it may come
-pub finish_may : (v : View) (ch n : ℕ) (t : Descriptor) (how : TransResult) → IsFront (channel (object_of v) ch) t n → Finishes v how t n
+pub finish_may : (v : View) (ch n : ℕ) (t : Descriptor) (how : TransResult) → IsFront (state_at v ch) t n → Finishes v how t n
     → Allows (object_of v) (Finished ch how (stored_after t n))
 finish_may v ch n t NoError f is =
-    let c = channel (object_of v) ch in
+    let c = state_at v ch in
     let last : n + 1 ≡ cost t = (shape_is t f.rules).end_only n f.within is in
     let at_last : n ≡ cost t - 1 = omega arith in
     let not_wfe : (k : ℕ) (i : Bool) → member t n ≢ Wfe k i = λ k i g. let e = sym is ∙ g in absurd cc in
     let signalled : IsSome t.signal → c.signalled ≡ true = λ w. f.signalled ∙ ap (λ b. b && n == cost t - 1) w ∙ eq-eqb n (cost t - 1) at_last in
     (f.goes, rw f.issued (has_passed c t n f not_wfe, signalled, ap (stored_after t) at_last ∙ (stored_is t f.rules).all))
 finish_may v ch n t ReadFailed f is =
-    let c = channel (object_of v) ch in
+    let c = state_at v ch in
     let load = (stored_is t f.rules).load n is.0 in
     let not_wfe : (k : ℕ) (i : Bool) → member t n ≢ Wfe k i = λ k i g. let e = sym is.0 ∙ g in absurd cc in
     let not_end : member t n ≢ End = λ g. let e = sym is.0 ∙ g in absurd cc in
     let hit = more_marked Reading (object_of v).marks (drop (stored_after t n) (sources t)) (burst t n) load.1 is.1 in
     (f.goes, rw f.issued (has_passed c t n f not_wfe, not_signalled c t n f not_end, omega (arith, load.0, load.2), hit))
 finish_may v ch n t WriteFailed f is =
-    let c = channel (object_of v) ch in
+    let c = state_at v ch in
     let store = (stored_is t f.rules).store n is.0 in
     let not_wfe : (k : ℕ) (i : Bool) → member t n ≢ Wfe k i = λ k i g. let e = sym is.0 ∙ g in absurd cc in
     let not_end : member t n ≢ End = λ g. let e = sym is.0 ∙ g in absurd cc in
@@ -199,10 +200,10 @@ nothing_stored c h = by (issued_front c) where
   by (Some t) = (omega arith, λ _. refl, λ _ _. refl, λ e. absurd (true≢false (sym e ∙ h)))
 
 -- how many bytes of the front are stored when its channel is terminated
-pub stored_there : (v : View) (ch : ℕ) → IsSound v → ch < channels v → CanHaveStored (channel (object_of v) ch) (done_on v ch)
+pub stored_there : (v : View) (ch : ℕ) → IsSound v → ch < channels v → CanHaveStored (state_at v ch) (done_on v ch)
 stored_there v ch h less = by _ refl where
   c : ChannelState
-  c = channel (object_of v) ch
+  c = state_at v ch
 
   by : (x : Option ℕ) → (schedule_at v ch).taken ≡ x → CanHaveStored c (done_on v ch)
   by None e =
@@ -221,7 +222,7 @@ and_true true = refl
 and_true false = refl
 
 pub signalled_end : {p : Parts} {ch : ℕ} {q : Queue} → (r : Runs p ch q) → member r.transfer q.channel.taken ≡ End
-    → (channel (object_of (view_of p)) ch).signalled ≡ is_some r.transfer.signal
+    → (state_in p ch).signalled ≡ is_some r.transfer.signal
 signalled_end {p} {ch} {q} r is =
     let t = r.transfer in
     let n = q.channel.taken in

@@ -1,12 +1,12 @@
 -- What an engine keeps and answers when its channel executes an instruction and its front doesn't finish.
-use Rattle.std.proofs.Common.{◌≡◌, ◌≢◌, ℕ, ◌+◌, ◌<◌, List, ◌∷◌, ◌++◌, length, map, Option, Some, None, Bool, true, refl, ap, sym, ◌∙◌, subst, arith, [], drop}
+use Rattle.std.proofs.Common.{◌≡◌, ◌≢◌, ℕ, ◌+◌, ◌<◌, List, ◌∷◌, ◌++◌, length, map, Some, None, Bool, true, refl, ap, sym, ◌∙◌, subst, arith, [], drop}
 use Rattle.std.proofs.Common.{false, inl, inr, take, ◌⊎◌}
 use Rattle.std.specs.Prelude.{slice_index_or, slice_set, is_some, IfSome, IsSomeAnd, slice_index, Ok}
 use Rattle.std.specs.{Option.option_to_list, List.All, List.Contains, List.zip, Map.keys_of}
 use Rattle.dma_insn.specs.declared.chip.ChipInsn.TheVariants.{Sev, Wfe, St, Ld, End}
 use Rattle.dma_insn.specs.declared.chip.ChipInsn.{ChipInsn}
 use Rattle.dma_mem.specs.Places.{Descriptor, Apart, moves, sources, destinations, lies_below, is_free_of}
-use Rattle.dma_mem.specs.{Image.over, Image.put, Image.moves_of, Pages.Paged, Meeting.IsFree, declared.marks.MarkKind.TheVariants.Writing}
+use Rattle.dma_mem.specs.{Image.put, Image.moves_of, Pages.Paged, Meeting.IsFree, declared.marks.MarkKind.TheVariants.Writing}
 use Rattle.dma_mem.specs.{declared.marks.MarkKind.TheVariants.Reading, Marking.meets_mark, declared.call.Call.TheVariants.Step}
 use Rattle.dma_chan.specs.Channel.{ChannelValue, stepped, ahead_of}
 use Rattle.dma_chan.specs.Traffic.{member, stored_after, burst, read_places, written_places}
@@ -15,8 +15,8 @@ use Rattle.dma_chan.specs.declared.turn.ChanTurn.TheVariants.{Moved, Fault, Wait
 use Rattle.dma_chan.specs.{inner.At.IsAt, Exec.read_at, Exec.fault_in, inner.Acts.IsOther, Ready.OnPages, Ready.ready_of, declared.turn.ChanTurn.ChanTurn}
 use Rattle.dma_chan.specs.{declared.turn.FaultKind.FaultKind, declared.turn.FaultKind.TheVariants.DataReadErr, declared.turn.FaultKind.TheVariants.DataWriteErr}
 use Rattle.dma_engine.specs.Object.{Object, ChannelState, channel, front, finished, after}
-use Rattle.dma_engine.specs.View.{View, ChannelSchedule, RunningTransfer, AreFree, runs, running_in, running, with_stored, memory_shown, object_of, IsSound}
-use Rattle.dma_engine.specs.inner.Holds.{Holds, IsPrepared, IsRun, Parts, view_of, schedule_of, taken_of}
+use Rattle.dma_engine.specs.View.{View, ChannelSchedule, RunningTransfer, AreFree, runs, running_in, running, with_stored, memory_shown, IsSound}
+use Rattle.dma_engine.specs.inner.Holds.{Holds, IsPrepared, IsRun, Parts, view_of, schedule_of, taken_of, object_in, state_in}
 use Rattle.dma_engine.specs.inner.Due.{Adds, Finishes, failure_of, IsDue, IsNext}
 use Rattle.dma_engine.specs.{declared.entry.Entry.Entry, declared.queue.Queue.Queue, inner.Ranges.AreOfRunning, declared.entry.Entry.TheVariants.Passed}
 use Rattle.dma_engine.specs.{declared.entry.Entry.TheVariants.Signalled, declared.entry.Signaller.TheVariants.Channel}
@@ -29,7 +29,7 @@ use Rattle.dma_mem.proofs.OverTransfers.{moves_writes, Contains_take, Contains_d
 use Rattle.dma_mem.proofs.{ImagePut.get_or_put_other, SharedPlaces.is_free_of_true}
 use Rattle.dma_chan.proofs.{LayerLaws.step_is, LayerLaws.turn_reports, ReadyLaws.ready_is, ShapeLaws.stored_is, TreeCosts.cost_is}
 use Rattle.dma_engine.proofs.Changes.{LeadsTo, changed, holds_changed, leads_on, leads_still, run_kept, runs_here_law, runs_other, submitted_kept, view_changed}
-use Rattle.dma_engine.proofs.Memory.{DiffersAt, parts_changed, parts_split, shown_stored}
+use Rattle.dma_engine.proofs.Memory.{DiffersAt, shown_stored, shown_beside}
 use Rattle.dma_engine.proofs.Queues.{holds_at, many_queues, runs_at, runs_front, taken_some}
 use Rattle.dma_engine.proofs.StepCases.{Clear, Due, GoesOn, due_ahead, due_there, pass_turn, plain_turn, signal_turn, step_starved, stepped_so}
 use Rattle.dma_engine.proofs.{ConflictsByRanges.ranges_stay, Fronts.Runs, Sizes.memory_size, StaysSound.stepped_sound, StaysSound.with_flags}
@@ -91,7 +91,7 @@ run_at t n memory m c is h =
 
 module _ {p : Parts} {ch : ℕ} {q : Queue} (r : Runs p ch q) where
   abbrev old : Object
-  old = object_of (view_of p)
+  old = object_in p
 
   abbrev schedule : List ChannelSchedule
   schedule = (view_of p).schedule
@@ -185,21 +185,14 @@ module _ {p : Parts} {ch : ℕ} {q : Queue} (r : Runs p ch q) where
       Holds (moved_on p ch q (step_of_it r).1.image (step_of_it r).1.flags history)
   holds_beside flags history to a b w =
       let t = r.transfer in
-      let low = map with_stored (below old schedule ch) in
-      let high = map with_stored (above old schedule ch) in
-      let f : Option RunningTransfer → List (Descriptor × ℕ) = λ x. low ++ (map with_stored (option_to_list x) ++ high) in
       let same = (stored_is t r.rules).by_other q.channel.taken w.other in
-      let before = parts_split old schedule ch r.at.there ∙ ap f r.runs_is in
       holds_moved (record { image = p.memory; flags = flags }) history to a b (record {
         does = w.does;
         turn_is = w.turn_is;
         leads = w.leads;
         events = w.events;
-        shown = λ x d now.
-            let s = slice_set schedule ch x in
-            let then = parts_changed ch old to schedule s d ∙ ap f now in
-            r.at.holds.shown ∙ ap (over old.image) (before ∙ ap (λ k. low ++ (t, k) ∷ high) (sym same) ∙ sym then)
-            ∙ ap (λ i. over i (map with_stored (running to s))) (sym w.image);
+        shown = λ x d now. r.at.holds.shown ∙ shown_beside ch old to schedule (slice_set schedule ch x) d (now_at q.channel.taken)
+            (now_at (q.channel.taken + 1)) w.image r.runs_is now (ap (λ k. (t, k)) (sym same));
         machines = λ k f l g m. m;
       })
 
@@ -210,7 +203,7 @@ pub record Added (p : Parts) (ch : ℕ) (q : Queue) (r : Runs p ch q) (e : Entry
   pub flags : List Bool
   pub passed : Bool
   pub signalled : Bool
-  pub beside : MovesBeside r flags (p.history ++ e ∷ []) (after (object_of (view_of p)) e) passed signalled
+  pub beside : MovesBeside r flags (p.history ++ e ∷ []) (after (object_in p) e) passed signalled
 
 pub added : {p : Parts} {ch : ℕ} {q : Queue} {e : Entry} → (d : Due p ch q (Adds (view_of p) ch e)) → Added p ch q d.it e
 added {p} {ch} {q} {e} d = by e d.holds where
@@ -221,7 +214,7 @@ added {p} {ch} {q} {e} d = by e d.holds where
   n = q.channel.taken
 
   c : ChannelState
-  c = channel (object_of (view_of p)) ch
+  c = state_in p ch
 
   passes : (event : ℕ) (invalid : Bool) → member t n ≡ Wfe event invalid → slice_index_or p.events event false ≡ true → Added p ch q d.it (Passed ch event)
   passes event invalid is set = record {
@@ -295,9 +288,9 @@ apart_running ss (r ∷ rs) all = λ a i j. elim (Contains-append_cases (keys_of
 
 -- At the sources of what runs, the memory has the bytes of the image: nothing that runs writes there.
 sources_shown : {p : Parts} {ch : ℕ} {q : Queue} (r : Runs p ch q) (ss : List ℕ) → ((a : ℕ) → Contains ss a → Contains (sources r.transfer) a)
-    → read_at p.memory ss ≡ map (slice_index (object_of (view_of p)).image) ss
+    → read_at p.memory ss ≡ map (slice_index (object_in p).image) ss
 sources_shown {p} {ch} {q} r ss inside =
-    let o = object_of (view_of p) in
+    let o = object_in p in
     let s = (view_of p).schedule in
     let t = r.transfer in
     let P : RunningTransfer → Type 0 = λ x. Apart ss (destinations x.transfer) in
@@ -322,7 +315,7 @@ holds_stored : {p : Parts} {ch : ℕ} {q : Queue} → (d : Due p ch q GoesOn) �
     meets_mark Writing p.marks (written_places d.it.transfer q.channel.taken) ≡ false → turn (view_of p) ch ≡ next_moved (view_of p) ch q.channel.taken →
     Holds (moved_on p ch q (step_of_it d.it).1.image (step_of_it d.it).1.flags p.history)
 holds_stored {p} {ch} {q} d is clear turns =
-    let o = object_of (view_of p) in
+    let o = object_in p in
     let s = (view_of p).schedule in
     let r = d.it in
     let h = r.at.holds in
@@ -346,7 +339,7 @@ holds_stored {p} {ch} {q} d is clear turns =
       events = h.events;
       shown = λ x differs runs_then.
           ap (λ i. put i (zip writes bytes)) h.shown
-          ∙ shown_stored ch o o s (slice_set s ch x) now then (burst t n) bytes differs refl r.runs_is runs_then refl more r.rules free.0 from;
+          ∙ shown_stored ch o o s (slice_set s ch x) differs now then (burst t n) bytes refl r.runs_is runs_then (ap (λ j. (t, j)) more) r.rules free.0 from;
       machines = λ k f l g i.
           let e = slice_index_or p.queues k f in
           run_kept p.memory m.image e.channel (channel o k) (λ u loaded front_is a inside.
@@ -387,7 +380,7 @@ went_on {p} {ch} {q} d moved = by (member t n) refl d.holds where
   beside other does clear =
       let turn_is = turns clear in
       record {
-        holds = holds_beside d.it p.events p.history (object_of (view_of p)) _ _
+        holds = holds_beside d.it p.events p.history (object_in p) _ _
             (record { other = other; does = does; turn_is = turn_is; leads = leads_still p ch; events = h.events; image = refl });
         turn_is = turn_is;
       }

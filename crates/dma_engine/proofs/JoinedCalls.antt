@@ -7,11 +7,11 @@ use Rattle.dma_mem.specs.{Places.Descriptor, Places.lies_below, declared.call.Ca
 use Rattle.dma_engine.specs.declared.call.Reply.TheVariants.{Done, Bytes, Cookie, Turned, Refused}
 use Rattle.dma_engine.specs.declared.entry.Entry.TheVariants.{Wrote, ReadBack, Submitted, Marked, Signalled}
 use Rattle.dma_engine.specs.declared.fault.EngineFault.TheVariants.{OutOfMemoryRange, Running, NoChannel, CookiesSpent, BadEvent, BadRange, NoMemory}
-use Rattle.dma_engine.specs.View.{View, RunningTransfer, object_of, channels, size}
+use Rattle.dma_engine.specs.View.{View, RunningTransfer, object_of, channels, size, state_at}
 use Rattle.dma_engine.specs.Answer.{CallAnswers, AreAnswers, answer, answers, busy, cause, first_running, reply_of, unless, write_fault, read_fault}
 use Rattle.dma_engine.specs.Answer.{submit_fault, channel_fault, mark_fault, raise_fault, checkpoint_fault}
 use Rattle.dma_engine.specs.Laws.{AnswersOne, AnswersAppend, AnswersSplit, AnswerIsOne, AnswersAreAnswers, AnswerUnlessNoMemory, AnswersUnlessNoMemory}
-use Rattle.dma_engine.specs.{declared.call.Reply.Reply, declared.entry.Signaller.TheVariants.Host, declared.fault.EngineFault.EngineFault, Object.channel}
+use Rattle.dma_engine.specs.{declared.call.Reply.Reply, declared.entry.Signaller.TheVariants.Host, declared.fault.EngineFault.EngineFault}
 use Rattle.dma_engine.specs.{Object.last_cookie, Object.used, Turn.Stepped, Turn.turn, Turn.with_entry}
 use Rattle.dma_engine.proofs.Turns.{answer_is, turn_cases}
 
@@ -35,8 +35,7 @@ answers_split u w (c ∷ cs) more (r ∷ rs) h =
 
 pub answers_append_law : (v : View) (xs ys : List Call) → answers v (xs ++ ys) ≡ (let a = answers v xs in let b = answers a.1 ys in (a.0 ++ b.0, b.1))
 answers_append_law v [] ys = refl
-answers_append_law v (call ∷ xs) ys =
-    ap (λ (a : List Reply × View). ((answer v call).0 ∷ a.0, a.1)) (answers_append_law (answer v call).1 xs ys)
+answers_append_law v (call ∷ xs) ys = ap (λ (a : List Reply × View). ((answer v call).0 ∷ a.0, a.1)) (answers_append_law (answer v call).1 xs ys)
 
 -- ---- with enough memory no answer is out of memory
 
@@ -73,7 +72,7 @@ submit_cause : (v : View) (ch : ℕ) (t : Descriptor) → IsCause (submit_fault 
 submit_cause v ch t =
     one_cause (nat_le (channels v) ch) NoChannel _ tt
     (one_cause (not (lies_below t (size v))) OutOfMemoryRange _ tt
-    (one_cause (nat_le last_cookie (used (channel (object_of v) ch))) CookiesSpent None tt tt))
+    (one_cause (nat_le last_cookie (used (state_at v ch))) CookiesSpent None tt tt))
 
 unless_other : (v : View) (f : Option EngineFault) (x : Reply × View) → IsCause f → IsOther x.0 → IsOther (unless f v x).0
 unless_other v None x f h = h
@@ -103,7 +102,7 @@ answer_other v (Read addr len) =
     unless_other v (read_fault v addr len) (Bytes bytes, with_entry v (ReadBack addr bytes))
     (one_cause (nat_lt (size v) (addr + len)) OutOfMemoryRange _ tt (busy_cause _)) tt
 answer_other v (Submit ch t) =
-    let cookie = used (channel (object_of v) ch) + 1 in
+    let cookie = used (state_at v ch) + 1 in
     unless_other v (submit_fault v ch t) (Cookie cookie, with_entry v (Submitted ch t cookie)) (submit_cause v ch t) tt
 answer_other v (Issue ch) = unless_other v (channel_fault v ch) _ (channel_cause v ch) tt
 answer_other v (Pause ch) = unless_other v (channel_fault v ch) _ (channel_cause v ch) tt

@@ -6,7 +6,7 @@ use Rattle.dma_mem.specs.{Image.is_size, Image.over, Image.after_moves, Flags.al
 use Rattle.std.proofs.lemmas.Bool.{cases_lt, ne_eqb, le-ltb}
 use Rattle.std.proofs.lemmas.List.{length-replicate, get_or-replicate, get_or_past}
 use Rattle.dma_engine.specs.View.{View, ChannelSchedule, RunningTransfer, Fits, runs, running_in, running, with_stored, memory_shown, memory_of, object_of}
-use Rattle.dma_engine.specs.View.{IsSound, idle, new_fault, new_view}
+use Rattle.dma_engine.specs.View.{IsSound, idle, new_fault, new_view, state_at}
 use Rattle.dma_engine.specs.inner.Holds.{Holds, IsPrepared, Parts, view_of, schedule_of, new_queue}
 use Rattle.dma_engine.specs.{Object.IsBase, Object.channel, Object.empty_channel, Object.opening, declared.queue.Queue.Queue, inner.Ranges.AreOfRunning}
 use Rattle.dma_mem.proofs.PageImages.{put_none}
@@ -96,8 +96,7 @@ new_parts bytes made n = record {
 }
 
 pub new_view_law : (bytes : ℕ) (made : List Bool) (n : ℕ) → view_of (new_parts bytes made n) ≡ new_view bytes n
-new_view_law bytes made n =
-    ap (λ s. record { base = opening bytes n; history = []; steps = 0; schedule = s }) (map_same n)
+new_view_law bytes made n = ap (λ s. record { base = opening bytes n; history = []; steps = 0; schedule = s }) (map_same n)
 
 pub holds_new : (bytes : ℕ) (pages : List Bool) (n : ℕ) → new_fault bytes n ≡ None → Holds (new_parts bytes pages n)
 holds_new bytes pages n made =
@@ -113,7 +112,7 @@ holds_new bytes pages n made =
       marks = opening_marks bytes n ∙ ap (λ (w : View). (object_of w).marks) (sym is);
       each = λ ch d less.
           let inside : ch < n = omega (arith, less, length-replicate n new_queue) in
-          let here : channel (object_of v) ch ≡ empty_channel = ap (λ (w : View). channel (object_of w) ch) is ∙ new_at bytes n ch in
+          let here : state_at v ch ≡ empty_channel = ap (λ (w : View). state_at w ch) is ∙ new_at bytes n ch in
           rw (get_or-replicate n ch new_queue d inside, here) (record {
             submitted = record { forgotten = refl; given = refl; many = refl; first = refl; indexed = λ k l. absurd (omega arith) };
             outcomes = refl;

@@ -6,7 +6,7 @@ use Rattle.dma_engine.specs.declared.entry.Entry.TheVariants.{Submitted, Issued,
 use Rattle.dma_engine.specs.Object.{Object, ChannelState, after, channel, empty_channel, with_channel, with_flag, with_front_laid, finished}
 use Rattle.dma_engine.specs.Answer.{Extends, KeepsOutcomes, result_of, AreAnswers, CallAnswers, Remembers, checkpoint_fault, checkpointed, is_checkpoint}
 use Rattle.dma_engine.specs.{declared.entry.Entry.Entry, declared.entry.Signaller.TheVariants.Channel, declared.outcome.Outcome.Outcome, History.object_after}
-use Rattle.dma_engine.specs.{View.View, View.object_of, declared.call.Reply.Reply, declared.call.Reply.TheVariants.Done}
+use Rattle.dma_engine.specs.{View.View, View.object_of, declared.call.Reply.Reply, declared.call.Reply.TheVariants.Done, View.state_at}
 use Rattle.dma_engine.proofs.{Boards.with_channel_at, Histories.object_after_append, Queues.slice_get_longer, CallLists.answers_extend, Checkpoint.accepted}
 use Rattle.dma_engine.proofs.{StaysSound.forgotten_at}
 use Rattle.dma_mem.specs.{declared.call.Call.Call, declared.call.Call.TheVariants.Checkpoint}
@@ -67,7 +67,7 @@ kept old new h =
     ∙ ap (λ f. if nat_le cookie f then None else slice_get d.outcomes (cookie - f - 1)) keeps.forgotten
     ∙ by (nat_le cookie c.forgotten) g
 
-pub extends_forgotten : (old new : View) → Extends old new → (ch : ℕ) → (channel (object_of new) ch).forgotten ≡ (channel (object_of old) ch).forgotten
+pub extends_forgotten : (old new : View) → Extends old new → (ch : ℕ) → (state_at new ch).forgotten ≡ (state_at old ch).forgotten
 extends_forgotten old new h ch =
     let more = h.1 in
     let is : object_of new ≡ object_after (object_of old) more.0 = ap (λ b. object_after b new.history) h.0 ∙ ap (object_after old.base) more.1
@@ -79,41 +79,33 @@ extends_forgotten old new h ch =
 -- After a call, each outcome is remembered or forgotten, and what was forgotten stays forgotten.
 record RemembersOn (v w : View) : Type 0 where
   remembers : Remembers v w
-  rises : (ch : ℕ) → (channel (object_of v) ch).forgotten ≤ (channel (object_of w) ch).forgotten
+  rises : (ch : ℕ) → (state_at v ch).forgotten ≤ (state_at w ch).forgotten
 
-kept_remembers : (old new : View) → Extends old new → Remembers old new
-kept_remembers old new h ch cookie x is = inl (kept old new h ch cookie x is)
+-- an accepted checkpoint forgets the finished cookies
+forgotten_next : (v w : View) (ch : ℕ) → w ≡ checkpointed v → (state_at w ch).forgotten ≡ finished (state_at v ch)
+forgotten_next v w ch is = ap (λ (u : View). (state_at u ch).forgotten) is ∙ ap (λ (d : ChannelState). d.forgotten) (forgotten_at (object_of v) ch)
 
--- an accepted checkpoint forgets an outcome, whose cookie is then among the forgotten ones
+-- and an outcome, whose cookie is then among the forgotten ones
 forgets : (v w : View) → w ≡ checkpointed v → Remembers v w
 forgets v w is ch cookie x lost =
-    let o = object_of v in
-    let c = channel o ch in
-    let next : (channel (object_of w) ch).forgotten ≡ finished c = ap (λ (u : View). (channel (object_of u) ch).forgotten) is
-    ∙ ap (λ (d : ChannelState). d.forgotten) (forgotten_at o ch) in
+    let c = state_at v ch in
+    let next = forgotten_next v w ch is in
     inr (elim (cases_Bool (nat_le cookie c.forgotten)) [
       | inl e ↦ let none = rw e at lost in absurd cc
       | inr e ↦ omega (arith, slice_get_within c.outcomes (cookie - c.forgotten - 1) x (rw e at lost), next)
     ])
 
-then_remembers : (u v w : View) → Remembers u v → Remembers v w → ((ch : ℕ) → (channel (object_of v) ch).forgotten ≤ (channel (object_of w) ch).forgotten)
-    → Remembers u w
+then_remembers : (u v w : View) → Remembers u v → Remembers v w → ((ch : ℕ) → (state_at v ch).forgotten ≤ (state_at w ch).forgotten) → Remembers u w
 then_remembers u v w a b rises ch cookie x is = elim (a ch cookie x is) [
   | inl stays ↦ b ch cookie x stays
   | inr gone ↦ inr (omega (arith, gone, rises ch))
 ]
 
 extends_keeps : (v w : View) → Extends v w → RemembersOn v w
-extends_keeps v w h = record { remembers = kept_remembers v w h; rises = λ ch. omega (arith, extends_forgotten v w h ch) }
+extends_keeps v w h = record { remembers = λ ch cookie x is. inl (kept v w h ch cookie x is); rises = λ ch. omega (arith, extends_forgotten v w h ch) }
 
 checkpoint_keeps : (v w : View) → w ≡ checkpointed v → RemembersOn v w
-checkpoint_keeps v w is = record {
-  remembers = forgets v w is;
-  rises = λ ch.
-      let next : (channel (object_of w) ch).forgotten ≡ finished (channel (object_of v) ch) = ap (λ (u : View). (channel (object_of u) ch).forgotten) is
-      ∙ ap (λ (d : ChannelState). d.forgotten) (forgotten_at (object_of v) ch) in
-      omega (arith, next);
-}
+checkpoint_keeps v w is = record { remembers = forgets v w is; rises = λ ch. omega (arith, forgotten_next v w ch is) }
 
 only_done : (call : Call) (reply : Reply) → is_checkpoint call reply ≡ true → (call ≡ Checkpoint) × (reply ≡ Done)
 only_done Checkpoint Done e = (refl, refl)

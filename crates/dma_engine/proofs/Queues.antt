@@ -1,15 +1,19 @@
 -- A queue and what the object knows of its channel.
 use Rattle.std.proofs.Common.{◌≡◌, ℕ, ◌+◌, ◌-◌, ◌<◌, List, [], ◌∷◌, ◌++◌, length, Option, Some, None, Bool, true, false, cond, refl, ap, sym, ◌∙◌, arith, suc}
 use Rattle.std.proofs.Common.{zero, inl, inr}
-use Rattle.std.specs.{Prelude.IsSomeAnd, Prelude.is_some, Prelude.slice_get, Prelude.slice_index_or, Prelude.nat_lt, Option.option_map}
+use Rattle.std.specs.{Prelude.IsSomeAnd, Prelude.is_some, Prelude.slice_get, Prelude.slice_index_or, Prelude.slice_set, Prelude.nat_lt, Option.option_map}
 use Rattle.std.proofs.{lemmas.Bool.cases_lt, lemmas.Bool.le-ltb, lemmas.Bool.lt-ltb, lemmas.Bool.ltb-true, lemmas.Option.slice_get_within}
-use Rattle.std.proofs.{lemmas.Option.slice_get-get_or, lemmas.List.get_or-map, lemmas.List.length-map, lemmas.List.get_or-take, lemmas.List.get_or_default}
+use Rattle.std.proofs.{lemmas.Option.slice_get-get_or, lemmas.List.get_or-map, lemmas.List.length-map, lemmas.List.get_or-take, lemmas.List.set-get_or}
 use Rattle.dma_chan.specs.{Channel.ChannelValue, Programs.ProgramValue}
 use Rattle.dma_mem.specs.Places.{Descriptor}
 use Rattle.dma_engine.specs.Object.{ChannelState, channel, front, issued_front, no_transfer, used, finished}
-use Rattle.dma_engine.specs.View.{Agrees, running_in, runs, idle, object_of, channels, View, ChannelSchedule}
-use Rattle.dma_engine.specs.inner.Holds.{IsQueue, Holds, Parts, view_of, schedule_of, taken_of}
+use Rattle.dma_engine.specs.View.{Agrees, running_in, idle, channels, View, ChannelSchedule, EngineState, state_at}
+use Rattle.dma_engine.specs.inner.Holds.{IsQueue, Holds, Parts, view_of, schedule_of, taken_of, state_in, runs_in}
 use Rattle.dma_engine.specs.{declared.entry.Entry.Entry, declared.queue.Queue.Queue, inner.Found.given_by, inner.Found.transfer_at, inner.Ranges.AreOfRunning}
+
+-- the views of equal states are equal
+pub seen : {s t : EngineState} → s ≡ t → s.view ≡ t.view
+seen is = ap (λ (s : EngineState). s.view) is
 
 -- ---- the front of a channel
 
@@ -57,18 +61,18 @@ pub record HoldsAt (p : Parts) (ch : ℕ) (q : Queue) : Type 0 where
   pub read : q ≡ slice_index_or p.queues ch q
   pub there : ch < channels (view_of p)
   pub within : ch < length (view_of p).schedule
-  pub tied : IsQueue ch (channel p.base ch).submitted p.history p.memory q (channel (object_of (view_of p)) ch)
-  pub agrees : Agrees (channel (object_of (view_of p)) ch) (schedule_of q).taken
-  pub runs_is : runs (object_of (view_of p)) (view_of p).schedule ch ≡ running_in ch (channel (object_of (view_of p)) ch) (schedule_of q).taken
+  pub tied : IsQueue ch (channel p.base ch).submitted p.history p.memory q (state_in p ch)
+  pub agrees : Agrees (state_in p ch) (schedule_of q).taken
+  pub runs_is : runs_in p ch ≡ running_in ch (state_in p ch) (schedule_of q).taken
   pub schedule_is : slice_index_or (view_of p).schedule ch idle ≡ schedule_of q
-  pub ranges : AreOfRunning q.ranges (runs (object_of (view_of p)) (view_of p).schedule ch)
+  pub ranges : AreOfRunning q.ranges (runs_in p ch)
 
 pub many_queues : (p : Parts) → Holds p → length p.queues ≡ channels (view_of p)
 many_queues p h = sym (length-map p.queues schedule_of) ∙ h.sound.fits.many
 
 -- the index of a channel that is there has a queue
-pub queue_there : (p : Parts) (v : View) (ch i : ℕ) → Holds p → view_of p ≡ v → (i ≡ ch) × (ch < channels v) → i < length p.queues
-queue_there p v ch i h is there = omega (arith, many_queues p h, ap channels is, there.0, there.1)
+pub queue_there : {p : Parts} {v : View} {ch i : ℕ} → Holds p → view_of p ≡ v → (i ≡ ch) × (ch < channels v) → i < length p.queues
+queue_there {p} h is there = omega (arith, many_queues p h, ap channels is, there.0, there.1)
 
 pub holds_at : (p : Parts) → Holds p → (ch : ℕ) (q : Queue) → ch < length p.queues → q ≡ slice_index_or p.queues ch q → HoldsAt p ch q
 holds_at p h ch q less read =
@@ -83,10 +87,18 @@ holds_at p h ch q less read =
       within = omega (arith, h.sound.fits.many, inside);
       tied = rw (← read) at (h.each ch q less);
       agrees = rw at at (h.sound.fits.each ch inside);
-      runs_is = ap (λ (s : ChannelSchedule). running_in ch (channel (object_of v) ch) s.taken) at;
+      runs_is = ap (λ (s : ChannelSchedule). running_in ch (state_at v ch) s.taken) at;
       schedule_is = at;
       ranges = rw (← read) at (h.ranges ch q less);
     }
+
+pub holds_there : {p : Parts} {v : View} {ch i : ℕ} {q : Queue} → Holds p → view_of p ≡ v → (i ≡ ch) × (ch < channels v) → q ≡ slice_index_or p.queues i q
+    → HoldsAt p i q
+holds_there {p} {i = i} {q = q} h is there read = holds_at p h i q (queue_there h is there) read
+
+-- a queue that is as it was read leaves all queues as they were
+pub queue_back : (queues : List Queue) (i : ℕ) {q r : Queue} → r ≡ q → q ≡ slice_index_or queues i q → slice_set queues i r ≡ queues
+queue_back queues i {q} same read = ap (slice_set queues i) (same ∙ read) ∙ set-get_or queues i q
 
 -- how many instructions its machine has executed, if a program is loaded
 pub taken_some : (m : ChannelValue) → is_some m.program ≡ true → taken_of m ≡ Some m.taken
@@ -102,38 +114,26 @@ taken_none m h = by m.program h where
   by (Some p) e = absurd cc
 
 -- what runs on its channel
-pub runs_at : {p : Parts} {ch : ℕ} {q : Queue} → HoldsAt p ch q → (t : Descriptor) → is_some q.channel.program ≡ true
-    → front (channel (object_of (view_of p)) ch) ≡ Some t
-    → runs (object_of (view_of p)) (view_of p).schedule ch ≡ Some
-    (record { ch = ch; cookie = finished (channel (object_of (view_of p)) ch) + 1; transfer = t; taken = q.channel.taken })
+pub runs_at : {p : Parts} {ch : ℕ} {q : Queue} → HoldsAt p ch q → (t : Descriptor) → is_some q.channel.program ≡ true → front (state_in p ch) ≡ Some t
+    → runs_in p ch ≡ Some (record { ch = ch; cookie = finished (state_in p ch) + 1; transfer = t; taken = q.channel.taken })
 runs_at {p} {ch} {q} at t loaded is =
-    let c = channel (object_of (view_of p)) ch in
+    let c = state_in p ch in
     at.runs_is ∙ ap (running_in ch c) (taken_some q.channel loaded) ∙ runs_front ch c t q.channel.taken is
 
-pub runs_none : {p : Parts} {ch : ℕ} {q : Queue} → HoldsAt p ch q → is_some q.channel.program ≡ false
-    → None ≡ runs (object_of (view_of p)) (view_of p).schedule ch
-runs_none {p} {ch} {q} at unloaded =
-    sym (at.runs_is ∙ ap (running_in ch (channel (object_of (view_of p)) ch)) (taken_none q.channel unloaded))
+pub runs_none : {p : Parts} {ch : ℕ} {q : Queue} → HoldsAt p ch q → is_some q.channel.program ≡ false → None ≡ runs_in p ch
+runs_none {p} {ch} {q} at unloaded = sym (at.runs_is ∙ ap (running_in ch (state_in p ch)) (taken_none q.channel unloaded))
 
 -- ---- a queue's transfers
 
--- a transfer that the base has is the one submitted
-pub first_at : (ch : ℕ) (kept : List Descriptor) (history : List Entry) (memory : List ℕ) (q : Queue) (c : ChannelState) (n : ℕ) (t : Descriptor)
-    → IsQueue ch kept history memory q c → n < length kept → t ≡ slice_index_or kept n t → t ≡ slice_index_or c.submitted n no_transfer
-first_at ch kept history memory q c n t tied less read =
-    read ∙ ap (λ l. slice_index_or l n t) (sym tied.first) ∙ get_or-take (length kept) c.submitted n t less
-    ∙ get_or_default c.submitted n t no_transfer (omega (arith, tied.many))
-
 -- the transfer of a cookie that isn't forgotten is found in the base, or by its entry
-pub transfer_found : (ch : ℕ) (kept : List Descriptor) (history : List Entry) (memory : List ℕ) (q : Queue) (c : ChannelState) (n : ℕ)
-    → IsQueue ch kept history memory q c → n < length c.submitted → transfer_at kept history q.indices.items n ≡ Some (slice_index_or c.submitted n no_transfer)
-transfer_found ch kept history memory q c n tied less = elim (cases_lt n (length kept)) [
+pub transfer_found : {ch : ℕ} {kept : List Descriptor} {history : List Entry} {memory : List ℕ} {q : Queue} {c : ChannelState}
+    → IsQueue ch kept history memory q c → (n : ℕ) → n < length c.submitted
+    → transfer_at kept history q.indices.items n ≡ Some (slice_index_or c.submitted n no_transfer)
+transfer_found {kept = kept} {c = c} tied n less = elim (cases_lt n (length kept)) [
   | inl early ↦
       let e : nat_lt n (length kept) ≡ true = lt-ltb n (length kept) early in
-      let t : Descriptor = slice_index_or kept n no_transfer in
-      let read : t ≡ slice_index_or kept n t = get_or_default kept n no_transfer t early in
-      let is : slice_get kept n ≡ Some t = slice_get-get_or kept n no_transfer early in
-      rw e (is ∙ ap (λ u. Some u) (first_at ch kept history memory q c n t tied early read))
+      rw e (slice_get-get_or kept n no_transfer early ∙ ap (λ l. Some (slice_index_or l n no_transfer)) (sym tied.first)
+      ∙ ap (λ t. Some t) (get_or-take (length kept) c.submitted n no_transfer early))
   | inr late ↦
       let e : nat_lt n (length kept) ≡ false = le-ltb n (length kept) late in
       let k = n - length kept in

@@ -16,17 +16,17 @@ use Rattle.dma_engine.specs.inner.Found.{given_by, transfer_at, transfer_in, tra
 use Rattle.dma_engine.specs.Object.{Object, ChannelState, channel, no_transfer, unfinished, is_set}
 use Rattle.dma_engine.specs.Turn.{Stepped, ends, insn_turn, finishes, next_moved}
 use Rattle.dma_engine.specs.{declared.entry.Entry.Entry, declared.entry.Entry.TheVariants.Submitted, declared.outcome.TransResult.TransResult}
-use Rattle.dma_engine.specs.{declared.outcome.TransResult.TheVariants.ReadFailed, declared.outcome.TransResult.TheVariants.WriteFailed}
+use Rattle.dma_engine.specs.{declared.outcome.TransResult.TheVariants.ReadFailed, declared.outcome.TransResult.TheVariants.WriteFailed, inner.Holds.object_in}
 use Rattle.dma_engine.specs.{declared.queue.Queue.Queue, inner.Inside.queue_room, Room.no_room, Room.room_on, Room.HasRoom, Room.KeepsRoom, View.View}
 use Rattle.dma_engine.specs.{View.EngineState, View.object_of, inner.Holds.Holds, inner.Holds.IsQueue, inner.Holds.Parts, inner.Holds.view_of}
 use Rattle.dma_engine.proofs.{Changes.changed, Changes.schedule_kept, Changes.view_changed, QueueCalls.holds_paused, Queues.HoldsAt}
+use Rattle.dma_engine.specs.inner.Holds.{state_in}
 
 -- ---- room
 
 -- a queue with other room
 abbrev pub with_room : Queue → ℕ → ℕ → Queue
-with_room q a b =
-    record q { indices = record { items = q.indices.items; spare = a }; outcomes = record { items = q.outcomes.items; spare = b } }
+with_room q a b = record q { indices = record { items = q.indices.items; spare = a }; outcomes = record { items = q.outcomes.items; spare = b } }
 
 pub holds_room : {p : Parts} {ch : ℕ} {q : Queue} → HoldsAt p ch q → (a b : ℕ) → Holds (changed p ch (with_room q a b) p.memory p.events p.history p.steps)
 holds_room {q = q} at a b = holds_paused at a b q.paused
@@ -51,7 +51,7 @@ room_set queues ch q less =
 -- every channel's room is kept when one queue is replaced by one with no less room
 pub keeps_room : {p : Parts} {ch : ℕ} {q : Queue} → HoldsAt p ch q → (r : Queue) (entries : ℕ) (e f : EngineState)
     → record { view = view_of p; memory = p.memory; room = record { entries = entries; queues = map queue_room p.queues } } ≡ e
-    → object_of f.view ≡ object_of (view_of p) → entries ≤ f.room.entries → f.room.queues ≡ map queue_room (slice_set p.queues ch r)
+    → object_of f.view ≡ object_in p → entries ≤ f.room.entries → f.room.queues ≡ map queue_room (slice_set p.queues ch r)
     → q.indices.spare ≤ r.indices.spare → q.outcomes.spare ≤ r.outcomes.spare → KeepsRoom e f
 keeps_room {p} {ch} {q} at r entries e f is object more queues indices outcomes d h =
     let h' = subst (λ (s : EngineState). HasRoom s d) (sym is) h in
@@ -80,29 +80,24 @@ map_same f (x ∷ xs) (t ∷ ts) n h =
     ap (λ u. u ∷ map f xs) first ∙ ap (λ l. t ∷ l) rest
 
 -- the transfers of a queue that its entries give
-later_all : (ch : ℕ) (kept : List Descriptor) (history : List Entry) (memory : List ℕ) (q : Queue) (c : ChannelState) → IsQueue ch kept history memory q c
+later_all : {ch : ℕ} {kept : List Descriptor} {history : List Entry} {memory : List ℕ} {q : Queue} {c : ChannelState} → IsQueue ch kept history memory q c
     → map (transfer_in history) q.indices.items ≡ drop (length kept) c.submitted
-later_all ch kept history memory q c t =
+later_all {kept = kept} {history = history} {q = q} {c = c} t =
     let n = length kept in
     let many : length q.indices.items ≡ length (drop n c.submitted) = omega (arith, t.many, length-drop n c.submitted) in
     map_same (transfer_in history) q.indices.items (drop n c.submitted) many
     (λ k less. ap transfer_of (t.indexed k (omega (arith, less, many))).1 ∙ sym (get_or-drop n c.submitted k no_transfer))
 
--- all its transfers, with those that the base has
-found_all : (ch : ℕ) (kept : List Descriptor) (history : List Entry) (memory : List ℕ) (q : Queue) (c : ChannelState) → IsQueue ch kept history memory q c
-    → transfers_in kept history q.indices.items ≡ c.submitted
-found_all ch kept history memory q c t =
-    ap (λ l. l ++ map (transfer_in history) q.indices.items) (sym t.first)
-    ∙ ap (λ l. take (length kept) c.submitted ++ l) (later_all ch kept history memory q c t)
-    ∙ take-append-drop (length kept) c.submitted
-
 -- those of its unfinished cookies
-pub unfinished_found : {p : Parts} {ch : ℕ} {q : Queue} → HoldsAt p ch q → let c = channel (object_of (view_of p)) ch in
+pub unfinished_found : {p : Parts} {ch : ℕ} {q : Queue} → HoldsAt p ch q → let c = state_in p ch in
     unfinished_in q (channel p.base ch).submitted p.history ≡ drop (length c.outcomes) c.submitted
 unfinished_found {p} {ch} {q} at =
-    let c = channel (object_of (view_of p)) ch in
-    ap (drop (length q.outcomes.items)) (found_all ch (channel p.base ch).submitted p.history p.memory q c at.tied)
-    ∙ ap (λ l. drop (length l) c.submitted) at.tied.outcomes
+    let c = state_in p ch in
+    let t = at.tied in
+    let n = length (channel p.base ch).submitted in
+    ap (drop (length q.outcomes.items)) (ap (λ l. l ++ map (transfer_in p.history) q.indices.items) (sym t.first)
+    ∙ ap (λ l. take n c.submitted ++ l) (later_all t) ∙ take-append-drop n c.submitted)
+    ∙ ap (λ l. drop (length l) c.submitted) t.outcomes
 
 -- a transfer of the base or of an entry is the one at its place among all
 pub transfer_at_all : (kept : List Descriptor) (history : List Entry) (indices : List ℕ) (n : ℕ) → n < length kept + length indices

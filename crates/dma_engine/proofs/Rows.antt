@@ -1,5 +1,5 @@
 -- Worked rows, computed from the definitions.
-use Rattle.std.proofs.Common.{◌≡◌, ℕ, ◌<◌, ◌≤◌, List, [], ◌∷◌, Option, Some, None, true, false, refl, sym, arith}
+use Rattle.std.proofs.Common.{◌≡◌, ℕ, ◌<◌, ◌≤◌, List, [], ◌∷◌, Option, Some, None, true, false, refl, sym, arith, ◌++◌}
 use Rattle.std.proofs.lemmas.Bool.{eqb-false}
 use Rattle.dma_mem.specs.{Places.Descriptor, Places.filling, Places.lies_below, Places.share, Image.put, Image.after_moves, declared.marks.MarkKind.MarkKind}
 use Rattle.dma_mem.specs.{declared.marks.MarkKind.TheVariants.Reading, declared.marks.MarkKind.TheVariants.Writing, Marking.meets_mark, declared.call.Call.Call}
@@ -10,19 +10,24 @@ use Rattle.dma_engine.specs.declared.entry.Entry.TheVariants.{Wrote, ReadBack, S
 use Rattle.dma_engine.specs.declared.turn.Status.TheVariants.{Unknown, InProgress, Complete}
 use Rattle.dma_engine.specs.declared.fault.EngineFault.TheVariants.{OutOfMemoryRange, Busy, Running, NoChannel, BadEvent, BadRange, CookiesSpent, StepsSpent}
 use Rattle.dma_engine.specs.declared.outcome.TransResult.TheVariants.{NoError, ReadFailed, Aborted}
-use Rattle.dma_engine.specs.Object.{Object, opening, Allows, channel, used}
-use Rattle.dma_engine.specs.View.{View, channels, new_fault, new_view, object_of, running, size}
+use Rattle.dma_engine.specs.Object.{Object, opening, Allows, used}
+use Rattle.dma_engine.specs.View.{View, channels, new_fault, new_view, running, size, state_at}
 use Rattle.dma_engine.specs.{declared.entry.Entry.Entry, declared.entry.Signaller.TheVariants.Host, declared.call.Reply.Reply}
 use Rattle.dma_engine.specs.{declared.fault.NewFault.TheVariants.BadChannels, declared.fault.NewFault.TheVariants.SizeOutOfRange, Ticks.added_up}
 use Rattle.dma_engine.specs.{History.object_after, History.IsLegal, Answer.answer, Answer.answers}
-use Rattle.dma_mem.specs.declared.call.Call.TheVariants.{Write, Read, Submit, Issue, Pause, Resume, Terminate, Step, Status, Result as ResultOf, Mark, Raise, Checkpoint}
+use Rattle.dma_mem.specs.declared.call.Call.TheVariants.{Write, Read, Submit, Issue, Pause, Resume, Terminate, Step, Status, Mark, Raise, Checkpoint}
+use Rattle.dma_mem.specs.declared.call.Call.TheVariants.{Result as ResultOf}
 use Rattle.dma_engine.specs.declared.call.Reply.TheVariants.{Done, Bytes, Cookie, Count, Turned, State, Result as Resulted, Refused}
 use Rattle.dma_engine.specs.declared.turn.Turn.TheVariants.{Nothing, Held, Started, Moved, Waiting, Paused, Halted, Finished as TurnFinished}
+use Rattle.std.specs.Prelude.{replicate}
+use Rattle.dma_mem.specs.declared.segment.Segment.{Segment}
 
--- a transfer of n bytes from one range to another, and one of a byte with events
+-- a range, a transfer of n bytes from one range to another, and one of a byte with events
+abbrev range : ℕ → ℕ → Segment
+range addr len = record { addr = addr; len = len }
+
 abbrev copy : ℕ → ℕ → ℕ → Descriptor
-copy from to n =
-    record { fill = false; src = record { addr = from; len = n } ∷ []; dst = record { addr = to; len = n } ∷ []; wait = None; signal = None }
+copy from to n = record { fill = false; src = range from n ∷ []; dst = range to n ∷ []; wait = None; signal = None }
 
 abbrev byte : ℕ → ℕ → Option ℕ → Option ℕ → Descriptor
 byte from to wait signal = record (copy from to 1) { wait = wait; signal = signal }
@@ -30,6 +35,16 @@ byte from to wait signal = record (copy from to 1) { wait = wait; signal = signa
 -- the replies to calls on a new engine with this size and number of channels
 abbrev replies : ℕ → ℕ → List Call → List Reply
 replies size channels calls = (answers (new_view size channels) calls).0
+
+-- n steps of channel 0, n replies that it moved, and the reply that a cookie was aborted
+abbrev steps : ℕ → List Call
+steps n = replicate n (Step 0)
+
+abbrev moved : ℕ → List Reply
+moved n = replicate n (Turned Moved)
+
+abbrev aborted : ℕ → Reply
+aborted n = Resulted (Some (record { result = Aborted; residue = n }))
 
 -- ---- the object
 
@@ -53,8 +68,7 @@ copied_is_legal = (
 
 -- a byte is to be copied from a range with a mark
 abbrev over_a_mark : MarkKind → Object
-over_a_mark kind =
-    object_after (opening 4 1) (Submitted 0 (copy 0 2 2) 1 ∷ Issued 0 ∷ Marked kind (record { addr = 1; len = 1 }) ∷ [])
+over_a_mark kind = object_after (opening 4 1) (Submitted 0 (copy 0 2 2) 1 ∷ Issued 0 ∷ Marked kind (range 1 1) ∷ [])
 
 a_marked_source_fails : Allows (over_a_mark Reading) (Finished 0 ReadFailed 0)
 unfolding opening meets_mark
@@ -66,7 +80,7 @@ other_kind_fails_nothing allowed = eqb-false 0 0 (sym allowed.1.3) refl
 
 -- three bytes are filled with the one before them
 abbrev filled : List Entry
-filled = Wrote 0 (17 ∷ []) ∷ Submitted 0 (filling 0 (record { addr = 1; len = 3 } ∷ []) None None) 1 ∷ Issued 0 ∷ Finished 0 NoError 3 ∷ []
+filled = Wrote 0 (17 ∷ []) ∷ Submitted 0 (filling 0 (range 1 3 ∷ []) None None) 1 ∷ Issued 0 ∷ Finished 0 NoError 3 ∷ []
 
 filled_image : (object_after (opening 4 1) filled).image ≡ 17 ∷ 17 ∷ 17 ∷ 17 ∷ []
 unfolding opening put after_moves
@@ -76,7 +90,7 @@ filled_image = refl
 abbrev fill_of_a_marked_byte : Object
 fill_of_a_marked_byte =
     object_after (opening 4 1)
-    (Submitted 0 (filling 0 (record { addr = 1; len = 3 } ∷ []) None None) 1 ∷ Issued 0 ∷ Marked Reading (record { addr = 0; len = 1 }) ∷ [])
+    (Submitted 0 (filling 0 (range 1 3 ∷ []) None None) 1 ∷ Issued 0 ∷ Marked Reading (range 0 1) ∷ [])
 
 fails_at_its_first_byte : Allows fill_of_a_marked_byte (Finished 0 ReadFailed 0)
 unfolding opening meets_mark
@@ -108,59 +122,52 @@ how_far_a_cookie_is = refl
 
 -- three bytes go in bursts of two and one; the first is stored when the channel is terminated
 residues_of_a_terminate : replies 16 1
-    (Write 0 (17 ∷ 34 ∷ 51 ∷ []) ∷ Submit 0 (copy 0 8 3) ∷ Submit 0 (copy 0 4 2) ∷ Issue 0 ∷ Step 0 ∷ Step 0 ∷ Step 0 ∷ Step 0 ∷ Step 0 ∷ Step 0 ∷ Step 0 ∷
-    Terminate 0 ∷ ResultOf 0 1 ∷ ResultOf 0 2 ∷ ResultOf 0 3 ∷ Read 8 3 ∷ [])
-    ≡ Done ∷ Cookie 1 ∷ Cookie 2 ∷ Count 2 ∷ Turned (Started 1) ∷ Turned Moved ∷ Turned Moved ∷ Turned Moved ∷ Turned Moved ∷ Turned Moved ∷ Turned Moved ∷
-    Count 2 ∷ Resulted (Some (record { result = Aborted; residue = 1 })) ∷ Resulted (Some (record { result = Aborted; residue = 2 })) ∷ Resulted None ∷
+    (Write 0 (17 ∷ 34 ∷ 51 ∷ []) ∷ Submit 0 (copy 0 8 3) ∷ Submit 0 (copy 0 4 2) ∷ Issue 0 ∷ steps 7 ++ Terminate 0 ∷ ResultOf 0 1 ∷ ResultOf 0 2 ∷
+    ResultOf 0 3 ∷ Read 8 3 ∷ [])
+    ≡ Done ∷ Cookie 1 ∷ Cookie 2 ∷ Count 2 ∷ Turned (Started 1) ∷ moved 6 ++ Count 2 ∷ aborted 1 ∷ aborted 2 ∷ Resulted None ∷
     Bytes (17 ∷ 34 ∷ 0 ∷ []) ∷ []
 unfolding opening put after_moves share running member members stored_after burst meets_mark parts beat_of bits_of end_bits burst_at
 residues_of_a_terminate = refl
 
 -- a fill's two pieces are a burst each; the first is stored when the channel is terminated
 a_fill_stops_halfway : replies 16 1
-    (Write 0 (17 ∷ []) ∷ Submit 0 (filling 0 (record { addr = 8; len = 2 } ∷ record { addr = 12; len = 1 } ∷ []) None None) ∷ Issue 0 ∷ Step 0 ∷ Step 0 ∷ Step 0
-    ∷ Step 0 ∷ Step 0 ∷ Step 0 ∷ Step 0 ∷ Terminate 0 ∷ ResultOf 0 1 ∷ Read 8 5 ∷ [])
-    ≡ Done ∷ Cookie 1 ∷ Count 1 ∷ Turned (Started 1) ∷ Turned Moved ∷ Turned Moved ∷ Turned Moved ∷ Turned Moved ∷ Turned Moved ∷ Turned Moved ∷ Count 1 ∷
-    Resulted (Some (record { result = Aborted; residue = 1 })) ∷ Bytes (17 ∷ 17 ∷ 0 ∷ 0 ∷ 0 ∷ []) ∷ []
+    (Write 0 (17 ∷ []) ∷ Submit 0 (filling 0 (range 8 2 ∷ range 12 1 ∷ []) None None) ∷ Issue 0 ∷ steps 7 ++ Terminate 0 ∷ ResultOf 0 1 ∷ Read 8 5 ∷ [])
+    ≡ Done ∷ Cookie 1 ∷ Count 1 ∷ Turned (Started 1) ∷ moved 6 ++ Count 1 ∷ aborted 1 ∷ Bytes (17 ∷ 17 ∷ 0 ∷ 0 ∷ 0 ∷ []) ∷ []
 unfolding opening put after_moves share running member members stored_after burst meets_mark parts beat_of bits_of end_bits burst_at
 a_fill_stops_halfway = refl
 
 one_event_lets_one_pass : replies 16 2
-    (Submit 0 (byte 0 4 (Some 3) None) ∷ Submit 1 (byte 0 8 (Some 3) None) ∷ Issue 0 ∷ Issue 1 ∷ Step 0 ∷ Step 1 ∷ Step 0 ∷ Raise 3 ∷ Step 1 ∷ Step 0 ∷ Raise 32
-    ∷ [])
+    (Submit 0 (byte 0 4 (Some 3) None) ∷ Submit 1 (byte 0 8 (Some 3) None) ∷ Issue 0 ∷ Issue 1 ∷ Step 0 ∷ Step 1 ∷ Step 0 ∷ Raise 3 ∷ Step 1 ∷ Step 0 ∷
+    Raise 32 ∷ [])
     ≡ Cookie 1 ∷ Cookie 1 ∷ Count 1 ∷ Count 1 ∷ Turned (Started 1) ∷ Turned (Started 1) ∷ Turned (Waiting 3) ∷ Done ∷ Turned Moved ∷ Turned (Waiting 3) ∷
     Refused BadEvent ∷ []
 unfolding opening put after_moves share running member members
 one_event_lets_one_pass = refl
 
 a_failed_load_halts : replies 16 1
-    (Mark Reading (record { addr = 0; len = 1 }) ∷ Submit 0 (copy 0 4 1) ∷ Submit 0 (copy 1 4 1) ∷ Issue 0 ∷ Step 0 ∷ Step 0 ∷ Step 0 ∷ Step 0 ∷ Step 0 ∷ Step 0
-    ∷ Terminate 0 ∷ Step 0 ∷ [])
-    ≡ Done ∷ Cookie 1 ∷ Cookie 2 ∷ Count 2 ∷ Turned (Started 1) ∷ Turned Moved ∷ Turned Moved ∷ Turned Moved ∷ Turned (TurnFinished 1 ReadFailed 1) ∷ Turned
-    Halted ∷ Count 1 ∷ Turned Nothing ∷ []
+    (Mark Reading (range 0 1) ∷ Submit 0 (copy 0 4 1) ∷ Submit 0 (copy 1 4 1) ∷ Issue 0 ∷ steps 6 ++ Terminate 0 ∷ Step 0 ∷ [])
+    ≡ Done ∷ Cookie 1 ∷ Cookie 2 ∷ Count 2 ∷ Turned (Started 1) ∷ moved 3 ++ Turned (TurnFinished 1 ReadFailed 1) ∷ Turned Halted ∷ Count 1 ∷ Turned Nothing ∷
+    []
 unfolding opening put after_moves share running member members stored_after burst meets_mark parts beat_of bits_of end_bits burst_at
 a_failed_load_halts = refl
 
 other_kind_stops_nothing : replies 16 1
-    (Mark Writing (record { addr = 0; len = 1 }) ∷ Submit 0 (copy 0 4 1) ∷ Issue 0 ∷ Step 0 ∷ Step 0 ∷ Step 0 ∷ Step 0 ∷ Step 0 ∷ [])
-    ≡ Done ∷ Cookie 1 ∷ Count 1 ∷ Turned (Started 1) ∷ Turned Moved ∷ Turned Moved ∷ Turned Moved ∷ Turned Moved ∷ []
+    (Mark Writing (range 0 1) ∷ Submit 0 (copy 0 4 1) ∷ Issue 0 ∷ steps 5)
+    ≡ Done ∷ Cookie 1 ∷ Count 1 ∷ Turned (Started 1) ∷ moved 4
 unfolding opening put after_moves share running member members stored_after burst meets_mark parts beat_of bits_of end_bits burst_at
 other_kind_stops_nothing = refl
 
 a_copy_to_its_end : replies 16 1
-    (Write 0 (17 ∷ []) ∷ Submit 0 (copy 0 4 1) ∷ Step 0 ∷ Issue 0 ∷ Pause 0 ∷ Step 0 ∷ Resume 0 ∷ Step 0 ∷ Step 0 ∷ Step 0 ∷ Step 0 ∷ Step 0 ∷ Step 0 ∷ Step 0 ∷
-    Step 0 ∷ Step 0 ∷ Step 0 ∷ Read 4 1 ∷ Step 1 ∷ [])
-    ≡ Done ∷ Cookie 1 ∷ Turned Nothing ∷ Count 1 ∷ Done ∷ Turned Paused ∷ Done ∷ Turned (Started 1) ∷ Turned Moved ∷ Turned Moved ∷ Turned Moved ∷ Turned Moved
-    ∷ Turned Moved ∷ Turned Moved ∷ Turned Moved ∷ Turned (TurnFinished 1 NoError 0) ∷ Turned Nothing ∷ Bytes (17 ∷ []) ∷ Refused NoChannel ∷ []
+    (Write 0 (17 ∷ []) ∷ Submit 0 (copy 0 4 1) ∷ Step 0 ∷ Issue 0 ∷ Pause 0 ∷ Step 0 ∷ Resume 0 ∷ steps 10 ++ Read 4 1 ∷ Step 1 ∷ [])
+    ≡ Done ∷ Cookie 1 ∷ Turned Nothing ∷ Count 1 ∷ Done ∷ Turned Paused ∷ Done ∷ Turned (Started 1) ∷ moved 7 ++ Turned (TurnFinished 1 NoError 0) ∷
+    Turned Nothing ∷ Bytes (17 ∷ []) ∷ Refused NoChannel ∷ []
 unfolding opening put after_moves share running member members stored_after burst meets_mark parts beat_of bits_of end_bits burst_at
 a_copy_to_its_end = refl
 
 -- a signal of one channel lets another pass
 a_signal_lets_one_pass : replies 16 2
-    (Submit 0 (byte 0 4 None (Some 5)) ∷ Submit 1 (byte 0 8 (Some 5) None) ∷ Issue 0 ∷ Issue 1 ∷ Step 0 ∷ Step 1 ∷ Step 0 ∷ Step 0 ∷ Step 0 ∷ Step 0 ∷ Step 0 ∷
-    Step 0 ∷ Step 0 ∷ Step 1 ∷ Step 0 ∷ Step 1 ∷ [])
-    ≡ Cookie 1 ∷ Cookie 1 ∷ Count 1 ∷ Count 1 ∷ Turned (Started 1) ∷ Turned (Started 1) ∷ Turned Moved ∷ Turned Moved ∷ Turned Moved ∷ Turned Moved ∷ Turned
-    Moved ∷ Turned Moved ∷ Turned Moved ∷ Turned (Waiting 5) ∷ Turned Moved ∷ Turned Moved ∷ []
+    (Submit 0 (byte 0 4 None (Some 5)) ∷ Submit 1 (byte 0 8 (Some 5) None) ∷ Issue 0 ∷ Issue 1 ∷ Step 0 ∷ Step 1 ∷ steps 7 ++ Step 1 ∷ Step 0 ∷ Step 1 ∷ [])
+    ≡ Cookie 1 ∷ Cookie 1 ∷ Count 1 ∷ Count 1 ∷ Turned (Started 1) ∷ Turned (Started 1) ∷ moved 7 ++ Turned (Waiting 5) ∷ Turned Moved ∷ Turned Moved ∷ []
 unfolding opening put after_moves share running member members stored_after burst meets_mark parts beat_of bits_of end_bits burst_at
 a_signal_lets_one_pass = refl
 
@@ -189,8 +196,7 @@ unfolding opening
 events_up_to_31 = refl
 
 marks_up_to_the_last_address : replies 16 1
-    (Mark Reading (record { addr = 4294967295; len = 1 }) ∷ Mark Reading (record { addr = 4294967295; len = 2 }) ∷ Mark Writing (record { addr = 0; len = 0 }) ∷
-    [])
+    (Mark Reading (range 4294967295 1) ∷ Mark Reading (range 4294967295 2) ∷ Mark Writing (range 0 0) ∷ [])
     ≡ Done ∷ Refused BadRange ∷ Refused BadRange ∷ []
 unfolding opening
 marks_up_to_the_last_address = refl
@@ -202,19 +208,18 @@ the_last_event o = omega arith
 no_later_event : (o : Object) → Allows o (Signalled Host 32) → ⊥
 no_later_event o allowed = let event : 32 ≤ 31 = allowed in omega arith
 
-a_mark_to_the_last_address : (o : Object) (kind : MarkKind) → Allows o (Marked kind (record { addr = 4294967295; len = 1 }))
+a_mark_to_the_last_address : (o : Object) (kind : MarkKind) → Allows o (Marked kind (range 4294967295 1))
 a_mark_to_the_last_address o kind = (omega arith, omega arith)
 
-no_mark_beyond_it : (o : Object) (kind : MarkKind) → Allows o (Marked kind (record { addr = 4294967295; len = 2 })) → ⊥
+no_mark_beyond_it : (o : Object) (kind : MarkKind) → Allows o (Marked kind (range 4294967295 2)) → ⊥
 no_mark_beyond_it o kind allowed = let within : 4294967297 ≤ 4294967296 = allowed.1 in omega arith
 
-no_mark_of_nothing : (o : Object) (kind : MarkKind) → Allows o (Marked kind (record { addr = 0; len = 0 })) → ⊥
+no_mark_of_nothing : (o : Object) (kind : MarkKind) → Allows o (Marked kind (range 0 0)) → ⊥
 no_mark_of_nothing o kind allowed = let some : 0 < 0 = allowed.0 in omega arith
 
 -- of 300 bytes that are copied from address 0 on, one is marked
 abbrev long_copy : ℕ → Object
-long_copy at =
-    object_after (opening 1024 1) (Submitted 0 (copy 0 512 300) 1 ∷ Issued 0 ∷ Marked Reading (record { addr = at; len = 1 }) ∷ [])
+long_copy at = object_after (opening 1024 1) (Submitted 0 (copy 0 512 300) 1 ∷ Issued 0 ∷ Marked Reading (range at 1) ∷ [])
 
 -- the next 256 bytes can fail, and no byte after them
 fails_within_256_bytes : Allows (long_copy 255) (Finished 0 ReadFailed 0)
@@ -242,11 +247,11 @@ unfolding opening put after_moves share running member members stored_after burs
 no_step_after_it = refl
 
 -- the last cookie of a channel, whatever was submitted before it
-the_last_cookie : (v : View) (t : Descriptor) → channels v ≡ 1 → lies_below t (size v) ≡ true → used (channel (object_of v) 0) ≡ 2147483646
+the_last_cookie : (v : View) (t : Descriptor) → channels v ≡ 1 → lies_below t (size v) ≡ true → used (state_at v 0) ≡ 2147483646
     → (answer v (Submit 0 t)).0 ≡ Cookie 2147483647
 the_last_cookie v t many below given = rw (many, below, given) refl
 
-no_cookie_after_it : (v : View) (t : Descriptor) → channels v ≡ 1 → lies_below t (size v) ≡ true → used (channel (object_of v) 0) ≡ 2147483647
+no_cookie_after_it : (v : View) (t : Descriptor) → channels v ≡ 1 → lies_below t (size v) ≡ true → used (state_at v 0) ≡ 2147483647
     → answer v (Submit 0 t) ≡ (Refused CookiesSpent, v)
 no_cookie_after_it v t many below given = rw (many, below, given) refl
 
@@ -258,7 +263,7 @@ no_count_above_32_bits = refl
 what_a_checkpoint_forgets : replies 16 1
     (Submit 0 (copy 0 4 2) ∷ Submit 0 (copy 0 8 2) ∷ Terminate 0 ∷ Submit 0 (copy 0 4 2) ∷ Checkpoint ∷ ResultOf 0 2 ∷ Status 0 2 ∷ Status 0 3 ∷ Status 0 4 ∷
     Issue 0 ∷ Submit 0 (copy 0 8 2) ∷ Step 0 ∷ Checkpoint ∷ [])
-    ≡ Cookie 1 ∷ Cookie 2 ∷ Count 2 ∷ Cookie 3 ∷ Done ∷ Resulted None ∷ State Complete ∷ State InProgress ∷ State Unknown ∷ Count 1 ∷ Cookie 4 ∷ Turned
-    (Started 3) ∷ Refused (Running 0 3) ∷ []
+    ≡ Cookie 1 ∷ Cookie 2 ∷ Count 2 ∷ Cookie 3 ∷ Done ∷ Resulted None ∷ State Complete ∷ State InProgress ∷ State Unknown ∷ Count 1 ∷ Cookie 4 ∷
+    Turned (Started 3) ∷ Refused (Running 0 3) ∷ []
 unfolding opening put after_moves share running
 what_a_checkpoint_forgets = refl

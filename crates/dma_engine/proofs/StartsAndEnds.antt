@@ -11,12 +11,12 @@ use Rattle.dma_engine.specs.View.{View, ChannelSchedule, RunningTransfer, IsSoun
 use Rattle.dma_engine.specs.Turn.{front_cookie, first_conflicting, start_turn, with_entry, with_step, with_taken, turn, Stepped}
 use Rattle.dma_engine.specs.Answer.{CallAnswers, is_started, done_on, terminated}
 use Rattle.dma_engine.specs.inner.Due.{MayStart, Finishes, IsDue, front_with_cookie}
-use Rattle.dma_engine.specs.inner.Holds.{Holds, IsPrepared, Parts, view_of, schedule_of, queue_finished, queue_started, queue_terminated, IsQueue}
-use Rattle.dma_engine.specs.{inner.Found.front_in, inner.Found.known_with, declared.entry.Entry.Entry, declared.call.Reply.Reply}
+use Rattle.dma_engine.specs.inner.Holds.{Holds, IsPrepared, Parts, view_of, schedule_of, queue_finished, queue_started, queue_terminated, IsQueue, object_in}
+use Rattle.dma_engine.specs.{inner.Found.front_in, inner.Found.known_with, declared.entry.Entry.Entry, declared.call.Reply.Reply, View.state_at}
 use Rattle.dma_engine.specs.{declared.call.Reply.TheVariants.Turned, declared.call.Reply.TheVariants.Refused, declared.entry.Entry.TheVariants.Finished}
 use Rattle.dma_engine.specs.{declared.entry.Entry.TheVariants.Terminated, declared.outcome.Outcome.Outcome, declared.outcome.TransResult.TransResult}
 use Rattle.dma_engine.specs.{declared.fault.EngineFault.TheVariants.NoMemory, declared.queue.Queue.Queue, inner.Accesses.named, declared.access.Ranges.Ranges}
-use Rattle.dma_engine.specs.{inner.Ranges.AreOfRunning, inner.Ranges.HasRangesOf, declared.outcome.TransResult.TheVariants.Aborted}
+use Rattle.dma_engine.specs.{inner.Ranges.AreOfRunning, inner.Ranges.HasRangesOf, declared.outcome.TransResult.TheVariants.Aborted, inner.Holds.state_in}
 use Rattle.dma_mem.specs.Places.{Descriptor, lies_below, size_of, destinations}
 use Rattle.dma_mem.specs.{declared.call.Call.TheVariants.Step, Image.laid, Limits.most_transfer_bytes, Meeting.IsFree}
 use Rattle.dma_chan.specs.{Channel.loaded, Compiled.compiled, Ready.OnPages, Traffic.stored_after}
@@ -29,12 +29,13 @@ use Rattle.dma_engine.proofs.{Memory.shown_ended, Sizes.size_small, StaysSound.s
 use Rattle.dma_engine.proofs.{TransferRules.good_front, TransferRules.free_others, QueueCalls.shown_both, WhatRuns.running_same, WhatRuns.below, WhatRuns.above}
 use Rattle.dma_engine.proofs.{Fronts.Runs, Fronts.done_by, Fronts.running}
 use Rattle.dma_engine.specs.declared.turn.Turn.TheVariants.{Held, Started, Finished as TurnFinished}
+use Rattle.dma_engine.specs.declared.turn.Turn.{Turn}
 
 -- ---- the front that starts
 
 -- the front and its cookie, from the pair that was found
-pub front_with_cookie_law : (c : ChannelState) (u : Descriptor) (k : ℕ) → Some (u, k) ≡ front_with_cookie c → (issued_front c ≡ Some u) × (k ≡ finished c + 1)
-front_with_cookie_law c u k h = by (issued_front c) h where
+pub front_with_cookie_law : (c : ChannelState) {u : Descriptor} {k : ℕ} → Some (u, k) ≡ front_with_cookie c → (issued_front c ≡ Some u) × (k ≡ finished c + 1)
+front_with_cookie_law c {u} {k} h = by (issued_front c) h where
   by : (o : Option Descriptor) → Some (u, k) ≡ option_map {U = Descriptor × ℕ} (λ t. (t, finished c + 1)) o → (o ≡ Some u) × (k ≡ finished c + 1)
   by None e = absurd cc
   by (Some t) e = let same = some_pair_parts u t k (finished c + 1) e in (ap (λ x. Some x) (sym same.0), same.1)
@@ -62,7 +63,7 @@ pub idle_ranges : {p : Parts} {ch : ℕ} {q : Queue} → HoldsAt p ch q → (sch
 idle_ranges {p} {ch} {q} at idle =
     let v : View = view_of p in
     let there : (schedule_of q).taken ≡ None = sym (ap (λ (y : ChannelSchedule). y.taken) at.schedule_is) ∙ idle in
-    let none : runs (object_of v) v.schedule ch ≡ None = at.runs_is ∙ ap (running_in ch (channel (object_of v) ch)) there in
+    let none : runs (object_of v) v.schedule ch ≡ None = at.runs_is ∙ ap (running_in ch (state_at v ch)) there in
     by q.ranges (subst (AreOfRunning q.ranges) none at.ranges) where
       by : (x : Option Ranges) → AreOfRunning x None → x ≡ None
       by None h = refl
@@ -73,17 +74,17 @@ pub record FrontFound (p : Parts) (ch : ℕ) (q : Queue) (kept : List Descriptor
   pub at : HoldsAt p ch q
   pub known : q.issued ≤ known_with kept q
   pub is : front_in q kept history ≡ Some t
-  pub issued : issued_front (channel (object_of (view_of p)) ch) ≡ Some t
+  pub issued : issued_front (state_in p ch) ≡ Some t
   pub good : IsGood (size (view_of p)) t
   pub low : lies_below t 4294967295 ≡ true
 
 pub found_front : (p : Parts) → Holds p → (ch index : ℕ) (q : Queue) (kept : List Descriptor) (history : List Entry) (t : Descriptor) → index ≡ ch
     → q ≡ slice_index_or p.queues index q → kept ≡ (channel p.base index).submitted → history ≡ p.history → ch < channels (view_of p)
-    → issued_front (channel (object_of (view_of p)) ch) ≡ Some t → FrontFound p ch q kept history t
+    → issued_front (state_in p ch) ≡ Some t → FrontFound p ch q kept history t
 found_front p h ch index q kept history t same found keeps all there issued =
     let read : q ≡ slice_index_or p.queues ch q = rw same at found in
     let at = holds_at p h ch q (omega (arith, there, many_queues p h)) read in
-    let good = good_front p h ch t (front_issued (channel (object_of (view_of p)) ch) t issued) in
+    let good = good_front p h ch t (front_issued (state_in p ch) t issued) in
     record {
       at = at;
       known = rw (keeps, same) (few_issued at);
@@ -95,232 +96,215 @@ found_front p h ch index q kept history t same found keeps all there issued =
 
 -- ---- a start
 
-pub start_is : (v : View) (ch : ℕ) (t : Descriptor) → MayStart v ch → issued_front (channel (object_of v) ch) ≡ Some t → first_conflicting v t ≡ None
+pub start_is : (v : View) (ch : ℕ) (t : Descriptor) → MayStart v ch → issued_front (state_at v ch) ≡ Some t → first_conflicting v t ≡ None
     → turn v ch ≡ (Ok (Started (front_cookie v ch)), with_taken v ch (Some 0))
 start_is v ch t may some none = start_turn_law v ch t may some ∙ ap (start_turn v ch) none
 
-view_started : {p : Parts} {ch : ℕ} {q : Queue} → HoldsAt p ch q → (t : Descriptor) (u : Ranges)
-    → view_of (changed p ch (queue_started q t u) p.memory p.events p.history p.steps) ≡ with_taken (view_of p) ch (Some 0)
-view_started {p} {ch} {q} at t u =
-    view_changed p ch (queue_started q t u) p.memory p.events p.history p.steps
-    ∙ ap (λ (x : ChannelSchedule). record (view_of p) { schedule = slice_set (view_of p).schedule ch (record x { taken = Some 0 }) }) (sym at.schedule_is)
-
-pub holds_started : {p : Parts} {ch : ℕ} {q : Queue} → HoldsAt p ch q → (t : Descriptor) (u : Ranges) → MayStart (view_of p) ch
-    → issued_front (channel (object_of (view_of p)) ch) ≡ Some t → first_conflicting (view_of p) t ≡ None → OnPages p.made (destinations t) → HasRangesOf u t
-    → Holds (changed p ch (queue_started q t u) p.memory p.events p.history p.steps)
-holds_started {p} {ch} {q} at t u may some none pages ranges =
-    let v : View = view_of p in
-    let o = object_of v in
-    let s = v.schedule in
-    let c = channel o ch in
-    let h = at.holds in
-    let r = queue_started q t u in
-    let x : ChannelSchedule = schedule_of r in
-    let tied = at.tied in
-    let is : front c ≡ Some t = front_issued c t some in
-    let good = good_front p h ch t is in
-    let idle_there : (schedule_of q).taken ≡ None = sym (ap (λ (y : ChannelSchedule). y.taken) at.schedule_is) ∙ may.3 in
-    let now : RunningTransfer = record { ch = ch; cookie = finished c + 1; transfer = t; taken = 0 } in
-    let there_is : running_in ch c x.taken ≡ Some now = runs_front ch c t 0 is in
-    let rested : runs o s ch ≡ None = at.runs_is ∙ ap (running_in ch c) idle_there in
-    let others : (d : ℕ) → d ≢ ch → runs o s d ≡ runs o (slice_set s ch x) d = λ d k. sym (runs_other o o s ch d x k refl) in
-    holds_changed at r p.memory p.events p.history p.steps o c (record {
-      sound = subst IsSound (sym (view_started at t u)) (stepped_sound v ch _ h.sound (start_is v ch t may some none));
-      leads = leads_still p ch;
-      shown = h.shown ∙ sym (shown_started ch o o s (slice_set s ch x) now (record { channels = refl; there = at.there; others = others }) refl rested
-          (runs_here_law o s ch x at.within ∙ there_is) (stored_is t good.0).none);
-      events = h.events;
-      tied = record {
-        submitted = tied.submitted;
-        outcomes = tied.outcomes;
-        issued = tied.issued;
-        halted = tied.halted;
-        machine =
-            rw is (starts_at t p.memory good.0);
-      };
-      prepared = subst (IsPrepared p.made) (sym there_is) pages;
-      ranges = subst (AreOfRunning (Some u)) (sym there_is) ranges;
-      machines = λ d i l k machine. machine;
-    })
-
-pub start_answers : {p : Parts} {ch : ℕ} {q : Queue} → HoldsAt p ch q → (cookie : ℕ) (t : Descriptor) (u : Ranges) → MayStart (view_of p) ch
-    → issued_front (channel (object_of (view_of p)) ch) ≡ Some t → first_conflicting (view_of p) t ≡ None → cookie ≡ front_cookie (view_of p) ch
-    → CallAnswers (view_of p) (Step ch) (Turned (Started cookie)) (view_of (changed p ch (queue_started q t u) p.memory p.events p.history p.steps))
-start_answers {p} {ch} {q} at cookie t u may some none number =
-    let v : View = view_of p in
-    ap (λ w. (Turned (Started cookie), w)) (view_started at t u) ∙ ap (λ k. (Turned (Started k), with_taken v ch (Some 0))) number
-    ∙ stepped_so v _ ch (Started (front_cookie v ch)) (start_is v ch t may some none)
-
 -- a start that is out of memory
-pub start_starved : (v w : View) (ch : ℕ) (t : Descriptor) → MayStart v ch → issued_front (channel (object_of v) ch) ≡ Some t → first_conflicting v t ≡ None
+pub start_starved : (v w : View) (ch : ℕ) (t : Descriptor) → MayStart v ch → issued_front (state_at v ch) ≡ Some t → first_conflicting v t ≡ None
     → w ≡ v → CallAnswers v (Step ch) (Refused NoMemory) w
 start_starved v w ch t may some none same =
     let is = stepped_so v _ ch (Started (front_cookie v ch)) (start_is v ch t may some none) in
     (sym (ap (λ (x : Reply × View). is_started x.0 || nat_lt (length v.history) (length x.1.history)) is), same)
 
-pub held_is : (v : View) (ch other cookie : ℕ) (t : Descriptor) → MayStart v ch → issued_front (channel (object_of v) ch) ≡ Some t
+pub held_is : (v : View) (ch other cookie : ℕ) (t : Descriptor) → MayStart v ch → issued_front (state_at v ch) ≡ Some t
     → Some (other, cookie) ≡ named (first_conflicting v t) → turn v ch ≡ (Ok (Held other cookie), v)
 held_is v ch other cookie t may some held =
     named_by (first_conflicting v t) other cookie (λ x c k. first_conflicting v t ≡ x → turn v ch ≡ (Ok (Held c k), v))
     (λ r is. start_turn_law v ch t may some ∙ ap (start_turn v ch) is) held refl
 
--- ---- the end of a front
-
 -- the front, if it is known
 pub front_is_law : (c : ChannelState) (t : Descriptor) → front c ≡ Some t → front_of c ≡ t
 front_is_law c t h = ap (λ o. unwrap_or o no_transfer) h
 
--- ---- a queue whose front, or all of whose cookies, have finished
+module _ {p : Parts} {ch : ℕ} {q : Queue} (at : HoldsAt p ch q) where
+  abbrev v : View
+  v = view_of p
 
--- When nothing runs on the channel any more, and the image has got what the front had stored, the memory shown is the
--- same.
-shown_over : {p : Parts} {ch : ℕ} {q : Queue} → HoldsAt p ch q → (o : Object) (x : ChannelSchedule) → length o.channels ≡ channels (view_of p)
-    → ((c : ℕ) → c ≢ ch → channel o c ≡ channel (object_of (view_of p)) c) → x.taken ≡ None
-    → o.image ≡ laid (object_of (view_of p)).image (front_of (channel (object_of (view_of p)) ch)) (done_on (view_of p) ch)
-    → p.memory ≡ memory_shown o (slice_set (view_of p).schedule ch x)
-shown_over {p} {ch} {q} at o x many others none image = at.holds.shown ∙ by _ refl where
-  old : Object
-  old = object_of (view_of p)
+  abbrev old : Object
+  old = object_in p
 
-  s : List ChannelSchedule
-  s = (view_of p).schedule
+  abbrev s : List ChannelSchedule
+  s = v.schedule
 
-  t : List ChannelSchedule
-  t = slice_set s ch x
+  abbrev c : ChannelState
+  c = state_in p ch
 
-  now : runs o t ch ≡ None
-  now = runs_here_law o s ch x at.within ∙ ap (running_in ch (channel o ch)) none
+  view_started : (t : Descriptor) (u : Ranges) → view_of (changed p ch (queue_started q t u) p.memory p.events p.history p.steps) ≡ with_taken v ch (Some 0)
+  view_started t u =
+      view_changed p ch (queue_started q t u) p.memory p.events p.history p.steps
+      ∙ ap (λ (x : ChannelSchedule). record v { schedule = slice_set s ch (record x { taken = Some 0 }) }) (sym at.schedule_is)
 
-  rest : (c : ℕ) → c ≢ ch → runs old s c ≡ runs o t c
-  rest c d = sym (runs_other old o s ch c x d (others c d))
+  pub holds_started : (t : Descriptor) (u : Ranges) → MayStart v ch → issued_front c ≡ Some t → first_conflicting v t ≡ None
+      → OnPages p.made (destinations t) → HasRangesOf u t → Holds (changed p ch (queue_started q t u) p.memory p.events p.history p.steps)
+  holds_started t u may some none pages ranges =
+      let h = at.holds in
+      let r = queue_started q t u in
+      let x : ChannelSchedule = schedule_of r in
+      let tied = at.tied in
+      let is : front c ≡ Some t = front_issued c t some in
+      let good = good_front p h ch t is in
+      let idle_there : (schedule_of q).taken ≡ None = sym (ap (λ (y : ChannelSchedule). y.taken) at.schedule_is) ∙ may.3 in
+      let now : RunningTransfer = record { ch = ch; cookie = finished c + 1; transfer = t; taken = 0 } in
+      let there_is : running_in ch c x.taken ≡ Some now = runs_front ch c t 0 is in
+      let rested : runs old s ch ≡ None = at.runs_is ∙ ap (running_in ch c) idle_there in
+      let others : (d : ℕ) → d ≢ ch → runs old s d ≡ runs old (slice_set s ch x) d = λ d k. sym (runs_other old old s ch d x k refl) in
+      holds_changed at r p.memory p.events p.history p.steps old c (record {
+        sound = subst IsSound (sym (view_started t u)) (stepped_sound v ch _ h.sound (start_is v ch t may some none));
+        leads = leads_still p ch;
+        shown = h.shown ∙ sym (shown_started ch old old s (slice_set s ch x) (record { channels = refl; there = at.there; others = others }) now refl rested
+            (runs_here_law old s ch x at.within ∙ there_is) (stored_is t good.0).none);
+        events = h.events;
+        tied = record {
+          submitted = tied.submitted;
+          outcomes = tied.outcomes;
+          issued = tied.issued;
+          halted = tied.halted;
+          machine = rw is (starts_at t p.memory good.0);
+        };
+        prepared = subst (IsPrepared p.made) (sym there_is) pages;
+        ranges = subst (AreOfRunning (Some u)) (sym there_is) ranges;
+        machines = λ d i l k machine. machine;
+      })
 
-  by : (b : Bool) → is_some q.channel.program ≡ b → memory_shown old s ≡ memory_shown o t
-  by true loaded =
-      let r = running at loaded in
-      let here : RunningTransfer = record { ch = ch; cookie = finished (channel old ch) + 1; transfer = r.transfer; taken = q.channel.taken } in
-      let laid_is : o.image ≡ laid old.image here.transfer (stored_after here.transfer here.taken) = image
-      ∙ ap (λ y. laid old.image (front_of (channel old ch)) (done_by y)) r.runs_is
-      ∙ ap (λ u. laid old.image u (stored_after here.transfer here.taken)) (front_is_law (channel old ch) r.transfer r.is) in
-      let free = free_others old s ch here at.holds.sound.fits at.there r.runs_is in
-      sym (shown_ended ch old o s t here (record { channels = sym many; there = at.there; others = rest }) r.runs_is now laid_is
-      (All-append (λ y. IsFree here.transfer y.transfer) (below old s ch) (above old s ch) free.0 free.1))
-  by false unloaded =
-      let before : runs old s ch ≡ None = sym (runs_none at unloaded) in
-      let nothing : o.image ≡ old.image = image ∙ ap (λ y. laid old.image (front_of (channel old ch)) (done_by y)) before
-      ∙ laid_none old.image (front_of (channel old ch)) in
-      let same = running_same old o s t (sym many) (λ c l. elim (cases_eq c ch) [ inl e ↦ rw e (now ∙ sym before) | inr d ↦ sym (rest c d) ]) in
-      shown_both old o s t (sym nothing) (sym same)
+  pub start_answers : (cookie : ℕ) (t : Descriptor) (u : Ranges) → MayStart v ch → issued_front c ≡ Some t → first_conflicting v t ≡ None
+      → cookie ≡ front_cookie v ch
+      → CallAnswers v (Step ch) (Turned (Started cookie)) (view_of (changed p ch (queue_started q t u) p.memory p.events p.history p.steps))
+  start_answers cookie t u may some none number =
+      ap (λ w. (Turned (Started cookie), w)) (view_started t u) ∙ ap (λ k. (Turned (Started k), with_taken v ch (Some 0))) number
+      ∙ stepped_so v _ ch (Started (front_cookie v ch)) (start_is v ch t may some none)
 
--- What an engine keeps after such a change.
-holds_ended : {p : Parts} {ch : ℕ} {q : Queue} → HoldsAt p ch q → (r : Queue) (e : Entry) (steps : ℕ) (state : ChannelState)
-    → IsSound (view_of (changed p ch r p.memory p.events (p.history ++ e ∷ []) steps))
-    → after (object_of (view_of p)) e ≡ with_channel (with_front_laid (object_of (view_of p)) ch (done_on (view_of p) ch)) ch state
-    → ((schedule_of r).taken ≡ None) × (r.ranges ≡ None) → IsQueue ch (channel p.base ch).submitted (p.history ++ e ∷ []) p.memory r state
-    → Holds (changed p ch r p.memory p.events (p.history ++ e ∷ []) steps)
-holds_ended {p} {ch} at r e steps state sound is stopped tied =
-    let w = after (object_of (view_of p)) e in
-    let to = leads_on p ch e state at.there (sym (ap (λ (o : Object). o.marks) is)) (ap (λ (o : Object). o.channels) is) in
-    holds_changed at r p.memory p.events (p.history ++ e ∷ []) steps w state (record {
-      sound = sound;
-      leads = to;
-      shown = shown_over at w (schedule_of r) to.many to.others stopped.0 (ap (λ (o : Object). o.image) is);
-      events = at.holds.events ∙ sym (ap (λ (o : Object). o.events) is);
-      tied = tied;
-      prepared = rw stopped.0 tt;
-      ranges = rw (stopped.0, stopped.1) tt;
-      machines = λ d i l k machine. machine;
-    })
+  -- ---- a queue whose front, or all of whose cookies, have finished
 
--- ---- terminate
+  -- When nothing runs on the channel any more, and the image has got what the front had stored, the memory shown is the
+  -- same.
+  shown_over : (o : Object) (x : ChannelSchedule) → length o.channels ≡ channels v → ((d : ℕ) → d ≢ ch → channel o d ≡ channel old d) → x.taken ≡ None
+      → o.image ≡ laid old.image (front_of c) (done_on v ch) → p.memory ≡ memory_shown o (slice_set s ch x)
+  shown_over o x many others none image = at.holds.shown ∙ by _ refl where
+    t : List ChannelSchedule
+    t = slice_set s ch x
 
-pub view_terminated : (p : Parts) (ch spare : ℕ) (q : Queue) (outcomes : List Outcome) (issued : ℕ)
-    → view_of (changed p ch (queue_terminated q spare outcomes issued) p.memory p.events (terminated (view_of p) ch).history p.steps) ≡ terminated (view_of p)
-    ch
-view_terminated p ch spare q outcomes issued =
-    view_changed p ch (queue_terminated q spare outcomes issued) p.memory p.events (terminated (view_of p) ch).history p.steps
+    now : runs o t ch ≡ None
+    now = runs_here_law o s ch x at.within ∙ ap (running_in ch (channel o ch)) none
 
-pub holds_terminated : {p : Parts} {ch : ℕ} {q : Queue} → HoldsAt p ch q → (spare : ℕ) → let v : View = view_of p in let c = channel (object_of v) ch in
-    Holds (changed p ch (queue_terminated q spare (aborted (done_on v ch) (drop (length c.outcomes) c.submitted)) q.given) p.memory p.events
-    (terminated v ch).history p.steps)
-holds_terminated {p} {ch} {q} at spare =
-    let v : View = view_of p in
-    let c = channel (object_of v) ch in
-    let t = at.tied in
-    let outcomes = aborted (done_on v ch) (drop (length c.outcomes) c.submitted) in
-    let e = Terminated ch (done_on v ch) (unfinished c) in
-    holds_ended at (queue_terminated q spare outcomes q.given) e p.steps (with_all_aborted c (done_on v ch))
-    (subst IsSound (sym (view_terminated p ch spare q outcomes q.given)) (terminate_sound v ch at.holds.sound at.there)) refl (refl, refl) (record {
-      submitted = submitted_kept (p.history ++ e ∷ []) (λ k x. slice_get_push p.history e x k) t.submitted;
-      outcomes = ap (λ l. l ++ outcomes) t.outcomes;
-      issued = t.given;
-      halted = refl;
-      machine = tt;
-    })
+    rest : (d : ℕ) → d ≢ ch → runs old s d ≡ runs o t d
+    rest d k = sym (runs_other old o s ch d x k (others d k))
+
+    by : (b : Bool) → is_some q.channel.program ≡ b → memory_shown old s ≡ memory_shown o t
+    by true loaded =
+        let r = running at loaded in
+        let here : RunningTransfer = record { ch = ch; cookie = finished c + 1; transfer = r.transfer; taken = q.channel.taken } in
+        let laid_is : o.image ≡ laid old.image here.transfer (stored_after here.transfer here.taken) = image
+        ∙ ap (λ y. laid old.image (front_of c) (done_by y)) r.runs_is
+        ∙ ap (λ u. laid old.image u (stored_after here.transfer here.taken)) (front_is_law c r.transfer r.is) in
+        let free = free_others old s ch here at.holds.sound.fits at.there r.runs_is in
+        sym (shown_ended ch old o s t (record { channels = sym many; there = at.there; others = rest }) here r.runs_is now laid_is
+        (All-append (λ y. IsFree here.transfer y.transfer) (below old s ch) (above old s ch) free.0 free.1))
+    by false unloaded =
+        let before : runs old s ch ≡ None = sym (runs_none at unloaded) in
+        let nothing : o.image ≡ old.image = image ∙ ap (λ y. laid old.image (front_of c) (done_by y)) before ∙ laid_none old.image (front_of c) in
+        let same = running_same old o s t (sym many) (λ d l. elim (cases_eq d ch) [ inl e ↦ rw e (now ∙ sym before) | inr k ↦ sym (rest d k) ]) in
+        shown_both old o s t (sym nothing) (sym same)
+
+  -- What an engine keeps after such a change.
+  holds_ended : (r : Queue) (e : Entry) (steps : ℕ) (state : ChannelState) → IsSound (view_of (changed p ch r p.memory p.events (p.history ++ e ∷ []) steps))
+      → after old e ≡ with_channel (with_front_laid old ch (done_on v ch)) ch state → ((schedule_of r).taken ≡ None) × (r.ranges ≡ None)
+      → IsQueue ch (channel p.base ch).submitted (p.history ++ e ∷ []) p.memory r state → Holds (changed p ch r p.memory p.events (p.history ++ e ∷ []) steps)
+  holds_ended r e steps state sound is stopped tied =
+      let w = after old e in
+      let to = leads_on p ch e state at.there (sym (ap (λ (o : Object). o.marks) is)) (ap (λ (o : Object). o.channels) is) in
+      holds_changed at r p.memory p.events (p.history ++ e ∷ []) steps w state (record {
+        sound = sound;
+        leads = to;
+        shown = shown_over w (schedule_of r) to.many to.others stopped.0 (ap (λ (o : Object). o.image) is);
+        events = at.holds.events ∙ sym (ap (λ (o : Object). o.events) is);
+        tied = tied;
+        prepared = rw stopped.0 tt;
+        ranges = rw (stopped.0, stopped.1) tt;
+        machines = λ d i l k machine. machine;
+      })
+
+  -- ---- terminate
+
+  pub view_terminated : (spare : ℕ) (outcomes : List Outcome) (issued : ℕ)
+      → view_of (changed p ch (queue_terminated q spare outcomes issued) p.memory p.events (terminated v ch).history p.steps) ≡ terminated v ch
+  view_terminated spare outcomes issued = view_changed p ch (queue_terminated q spare outcomes issued) p.memory p.events (terminated v ch).history p.steps
+
+  pub holds_terminated : (spare : ℕ) → Holds (changed p ch
+      (queue_terminated q spare (aborted (done_on v ch) (drop (length c.outcomes) c.submitted)) q.given) p.memory p.events (terminated v ch).history p.steps)
+  holds_terminated spare =
+      let t = at.tied in
+      let outcomes = aborted (done_on v ch) (drop (length c.outcomes) c.submitted) in
+      let e = Terminated ch (done_on v ch) (unfinished c) in
+      holds_ended (queue_terminated q spare outcomes q.given) e p.steps (with_all_aborted c (done_on v ch))
+      (subst IsSound (sym (view_terminated spare outcomes q.given)) (terminate_sound v ch at.holds.sound at.there)) refl (refl, refl) (record {
+        submitted = submitted_kept (p.history ++ e ∷ []) (λ k x. slice_get_push p.history e x k) t.submitted;
+        outcomes = ap (λ l. l ++ outcomes) t.outcomes;
+        issued = t.given;
+        halted = refl;
+        machine = tt;
+      })
+
+  -- the view after a finish
+  view_finished : (spare : ℕ) (outcome : Outcome) (halted : Bool) (e : Entry)
+      → view_of (changed p ch (queue_finished q spare outcome halted) p.memory p.events (p.history ++ e ∷ []) (p.steps + 1)) ≡ with_step
+      (with_taken (with_entry v e) ch None)
+  view_finished spare outcome halted e =
+      view_changed p ch (queue_finished q spare outcome halted) p.memory p.events (p.history ++ e ∷ []) (p.steps + 1)
+      ∙ ap (λ (x : ChannelSchedule). record v
+      { history = p.history ++ e ∷ []; steps = p.steps + 1; schedule = slice_set s ch (record x { taken = None }) }) (sym at.schedule_is)
 
 -- ---- a finish
 
--- the turn of a step that finishes the front, in terms of the bytes that are stored
-pub finish_is : {p : Parts} {ch : ℕ} {q : Queue} (how : TransResult) → Due p ch q (Finishes (view_of p) how) → let v : View = view_of p in let c =
-    channel (object_of v) ch in
-    turn v ch ≡ (
-      Ok (TurnFinished (front_cookie v ch) how (size_of (front_of c) - done_on v ch)),
-      with_step
-          (with_taken (with_entry v (Finished ch how (done_on v ch))) ch None),
-    )
-finish_is {p} {ch} {q} how d =
-    let v : View = view_of p in
-    let t = d.it.transfer in
-    let answer : Descriptor → ℕ → Stepped =
-    λ u k. (Ok (TurnFinished (front_cookie v ch) how (size_of u - k)), with_step (with_taken (with_entry v (Finished ch how k)) ch None)) in
-    d.turn_is ∙ finish_turn v ch q.channel.taken t how d.holds ∙ ap (answer t) (sym (ap done_by d.it.runs_is))
-    ∙ ap (λ u. answer u (done_on v ch)) (sym (front_is_law (channel (object_of v) ch) t d.it.is))
-
 -- the residue of the front, from that of the transfer that was found
-pub finish_left : (c : ChannelState) (u : Descriptor) (len stored : ℕ) {done : ℕ} → issued_front c ≡ Some u → len ≡ size_of u → stored ≡ done
+pub finish_left : (c : ChannelState) {u : Descriptor} {len stored done : ℕ} → issued_front c ≡ Some u → len ≡ size_of u → stored ≡ done
     → len - stored ≡ size_of (front_of c) - done
-finish_left c u len stored some size is =
+finish_left c {u} some size is =
     let front = front_is_law c u (front_issued c u some) in
     rw (size, is, front) refl
 
--- the view after it
-view_finished : {p : Parts} {ch : ℕ} {q : Queue} → HoldsAt p ch q → (spare : ℕ) (outcome : Outcome) (halted : Bool) (e : Entry)
-    → view_of (changed p ch (queue_finished q spare outcome halted) p.memory p.events (p.history ++ e ∷ []) (p.steps + 1)) ≡ with_step
-    (with_taken (with_entry (view_of p) e) ch None)
-view_finished {p} {ch} {q} at spare outcome halted e =
-    view_changed p ch (queue_finished q spare outcome halted) p.memory p.events (p.history ++ e ∷ []) (p.steps + 1)
-    ∙ ap (λ (x : ChannelSchedule). record (view_of p)
-    { history = p.history ++ e ∷ []; steps = p.steps + 1; schedule = slice_set (view_of p).schedule ch (record x { taken = None }) }) (sym at.schedule_is)
+module _ {p : Parts} {ch : ℕ} {q : Queue} (how : TransResult) (d : Due p ch q (Finishes (view_of p) how)) where
+  abbrev now : View
+  now = view_of p
 
-pub holds_finished : {p : Parts} {ch : ℕ} {q : Queue} (spare : ℕ) (how : TransResult) → Due p ch q (Finishes (view_of p) how) → let v : View = view_of p in
-    let c = channel (object_of v) ch in
-    Holds (changed p ch (queue_finished q spare (outcome_of how (front_of c) (done_on v ch)) (is_failure how)) p.memory p.events
-    (p.history ++ Finished ch how (done_on v ch) ∷ []) (p.steps + 1))
-holds_finished {p} {ch} {q} spare how d =
-    let v : View = view_of p in
-    let c = channel (object_of v) ch in
-    let at = d.it.at in
-    let t = at.tied in
-    let e = Finished ch how (done_on v ch) in
-    let outcome = outcome_of how (front_of c) (done_on v ch) in
-    holds_ended at (queue_finished q spare outcome (is_failure how)) e (p.steps + 1) (with_outcome c how (done_on v ch))
-    (subst IsSound (sym (view_finished at spare outcome (is_failure how) e)) (stepped_sound v ch _ at.holds.sound (finish_is how d))) refl (refl, refl)
-    (record {
-      submitted = submitted_kept (p.history ++ e ∷ []) (λ k x. slice_get_push p.history e x k) t.submitted;
-      outcomes = ap (λ l. l ++ outcome ∷ []) t.outcomes;
-      issued = t.issued;
-      halted = refl;
-      machine = tt;
-    })
+  abbrev done : ℕ
+  done = done_on now ch
 
-pub finish_answers : {p : Parts} {ch : ℕ} {q : Queue} (spare : ℕ) (how : TransResult) (outcome : Outcome) (halted : Bool)
-    → Due p ch q (Finishes (view_of p) how) → let v : View = view_of p in let c = channel (object_of v) ch in
-    CallAnswers v (Step ch) (Turned (TurnFinished (front_cookie v ch) how (size_of (front_of c) - done_on v ch)))
-    (view_of (changed p ch (queue_finished q spare outcome halted) p.memory p.events (p.history ++ Finished ch how (done_on v ch) ∷ []) (p.steps + 1)))
-finish_answers {p} {ch} spare how outcome halted d =
-    let v : View = view_of p in
-    let residue = size_of (front_of (channel (object_of v) ch)) - done_on v ch in
-    ap (λ w. (Turned (TurnFinished (front_cookie v ch) how residue), w)) (view_finished d.it.at spare outcome halted (Finished ch how (done_on v ch)))
-    ∙ stepped_so v _ ch (TurnFinished (front_cookie v ch) how residue) (finish_is how d)
+  abbrev state : ChannelState
+  state = state_in p ch
+
+  abbrev answer : Turn
+  answer = TurnFinished (front_cookie now ch) how (size_of (front_of state) - done)
+
+  -- the turn of a step that finishes the front, in terms of the bytes that are stored
+  pub finish_is : turn now ch ≡ (Ok answer, with_step (with_taken (with_entry now (Finished ch how done)) ch None))
+  finish_is =
+      let t = d.it.transfer in
+      let by : Descriptor → ℕ → Stepped =
+      λ u k. (Ok (TurnFinished (front_cookie now ch) how (size_of u - k)), with_step (with_taken (with_entry now (Finished ch how k)) ch None)) in
+      d.turn_is ∙ finish_turn now ch q.channel.taken t how d.holds ∙ ap (by t) (sym (ap done_by d.it.runs_is))
+      ∙ ap (λ u. by u done) (sym (front_is_law state t d.it.is))
+
+  pub holds_finished : (spare : ℕ) → Holds (changed p ch (queue_finished q spare (outcome_of how (front_of state) done) (is_failure how)) p.memory p.events
+      (p.history ++ Finished ch how done ∷ []) (p.steps + 1))
+  holds_finished spare =
+      let at = d.it.at in
+      let t = at.tied in
+      let e = Finished ch how done in
+      let outcome = outcome_of how (front_of state) done in
+      holds_ended at (queue_finished q spare outcome (is_failure how)) e (p.steps + 1) (with_outcome state how done)
+      (subst IsSound (sym (view_finished at spare outcome (is_failure how) e)) (stepped_sound now ch _ at.holds.sound finish_is)) refl (refl, refl) (record {
+        submitted = submitted_kept (p.history ++ e ∷ []) (λ k x. slice_get_push p.history e x k) t.submitted;
+        outcomes = ap (λ l. l ++ outcome ∷ []) t.outcomes;
+        issued = t.issued;
+        halted = refl;
+        machine = tt;
+      })
+
+  pub finish_answers : (spare : ℕ) (outcome : Outcome) (halted : Bool) → CallAnswers now (Step ch) (Turned answer)
+      (view_of (changed p ch (queue_finished q spare outcome halted) p.memory p.events (p.history ++ Finished ch how done ∷ []) (p.steps + 1)))
+  finish_answers spare outcome halted =
+      ap (λ w. (Turned answer, w)) (view_finished d.it.at spare outcome halted (Finished ch how done)) ∙ stepped_so now _ ch answer finish_is
 
 -- a finish that is out of memory
 pub finish_starved : (p : Parts) → Holds p → (ch : ℕ) (how : TransResult) → IsDue (view_of p) ch (Finishes (view_of p) how)
@@ -330,10 +314,8 @@ finish_starved p h ch how asked =
     step_starved (view_of p) ch _ (Finished ch how (done_on (view_of p) ch)) (finish_is how d) refl
 
 -- the front that runs isn't finished
-pub unfinished_some : {p : Parts} {ch : ℕ} {q : Queue} → Runs p ch q → 0 < unfinished (channel (object_of (view_of p)) ch)
-unfinished_some {p} {ch} r =
-    let known = front_known (channel (object_of (view_of p)) ch) r.transfer r.issued in
-    omega (arith, known.within)
+pub unfinished_some : {p : Parts} {ch : ℕ} {q : Queue} → Runs p ch q → 0 < unfinished (state_in p ch)
+unfinished_some {p} {ch} r = let known = front_known (state_in p ch) r.transfer r.issued in omega (arith, known.within)
 
 -- ---- the outcomes of a terminate
 

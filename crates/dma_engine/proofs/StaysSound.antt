@@ -15,7 +15,7 @@ use Rattle.dma_chan.specs.{Compiled.cost, inner.Acts.IsOther, Traffic.member, Tr
 use Rattle.dma_engine.specs.Object.{Object, Allows, after, channel, finished, IsMark, empty_channel, is_set, issued_front, unfinished, used, with_all_aborted}
 use Rattle.dma_engine.specs.Object.{with_outcome, with_transfer, ChannelState, front, base_from, IsBase, forget}
 use Rattle.dma_engine.specs.View.{running, View, ChannelSchedule, RunningTransfer, Agrees, AreFree, Fits, IsSound, channels, idle, object_of, runs, running_in}
-use Rattle.dma_engine.specs.View.{schedule_at}
+use Rattle.dma_engine.specs.View.{schedule_at, state_at}
 use Rattle.dma_engine.specs.Turn.{with_entry, Stepped, turn, burst_turn, front_turn, start_turn, insn_turn, next_moved, finishes, with_taken, first_conflicting}
 use Rattle.dma_engine.specs.Turn.{last_step}
 use Rattle.dma_engine.specs.Answer.{CallAnswers, answer, unless, write_fault, read_fault, submit_fault, channel_fault, mark_fault, raise_fault}
@@ -54,8 +54,7 @@ entry_sound v e steps s h allowed fits = record {
 -- an entry that changes no channel
 pub entered_sound : (v : View) (e : Entry) → IsSound v → Allows (object_of v) e → (object_of v).channels ≡ (after (object_of v) e).channels →
     IsSound (with_entry v e)
-entered_sound v e h allowed same =
-    entry_sound v e v.steps v.schedule h allowed (fits_channels (object_of v) (after (object_of v) e) v.schedule same h.fits)
+entered_sound v e h allowed same = entry_sound v e v.steps v.schedule h allowed (fits_channels (object_of v) (after (object_of v) e) v.schedule same h.fits)
 
 -- ---- a change at one channel
 
@@ -116,9 +115,8 @@ free_of_law t r None e h = tt
 free_of_law t r (Some s) e h = rw e (not-false (is_free_of t s.transfer) h)
 
 -- the schedule after it fits
-start_fits : (v : View) (ch : ℕ) (t : Descriptor) (x : ChannelSchedule) → IsSound v → MayStart v ch →
-    issued_front (channel (object_of v) ch) ≡ Some t → first_conflicting v t ≡ None → x.taken ≡ Some 0 →
-    FitsStill (object_of v) v.schedule ch (channel (object_of v) ch) x
+start_fits : (v : View) (ch : ℕ) (t : Descriptor) (x : ChannelSchedule) → IsSound v → MayStart v ch → issued_front (state_at v ch) ≡ Some t
+    → first_conflicting v t ≡ None → x.taken ≡ Some 0 → FitsStill (object_of v) v.schedule ch (state_at v ch) x
 start_fits v ch t x h may some none begun =
     let o = object_of v in
     let s = v.schedule in
@@ -276,14 +274,14 @@ record Runs (v : View) (ch n : ℕ) (t : Descriptor) : Type 0 where
   sound : IsSound v
   less : ch < channels v
   taken : (schedule_at v ch).taken ≡ Some n
-  it : IsFront (channel (object_of v) ch) t n
+  it : IsFront (state_at v ch) t n
 
 abbrev IsSoundStep : Stepped → Type 0
 IsSoundStep x = IsSound x.1
 
 module _ (v : View) (ch n : ℕ) (t : Descriptor) (r : Runs v ch n t) where
   abbrev c : ChannelState
-  c = channel (object_of v) ch
+  c = state_at v ch
 
   abbrev f : IsFront c t n
   f = r.it
@@ -354,9 +352,8 @@ module _ (v : View) (ch n : ℕ) (t : Descriptor) (r : Runs v ch n t) where
       (fits_still v ch r.sound r.less c next (agrees_next c.passed c.signalled within passed signalled) (free_next c.passed c.signalled))
 
   -- a burst, which ends the front at a mark
-  burst_sound : (kind : MarkKind) (places : List ℕ) (how : TransResult) →
-      (meets_mark kind (object_of v).marks places ≡ true → Finishes v how t n) → IsSound (next_moved v ch n).1 →
-      IsSound (burst_turn v ch t n kind places how).1
+  burst_sound : (kind : MarkKind) (places : List ℕ) (how : TransResult) → (meets_mark kind (object_of v).marks places ≡ true → Finishes v how t n)
+      → IsSound (next_moved v ch n).1 → IsSound (burst_turn v ch t n kind places how).1
   burst_sound kind places how fails moves =
       cond_both {A = Stepped} (meets_mark kind (object_of v).marks places) (finishes v ch t n how) (next_moved v ch n) IsSoundStep
       (λ hit. finish_sound how (fails hit)) (λ _. moves)
@@ -373,7 +370,7 @@ module _ (v : View) (ch n : ℕ) (t : Descriptor) (r : Runs v ch n t) where
 
 -- ---- the table of cases
 
-started_sound : (v : View) (ch : ℕ) (t : Descriptor) → IsSound v → MayStart v ch → issued_front (channel (object_of v) ch) ≡ Some t →
+started_sound : (v : View) (ch : ℕ) (t : Descriptor) → IsSound v → MayStart v ch → issued_front (state_at v ch) ≡ Some t →
     first_conflicting v t ≡ None → IsSound (with_taken v ch (Some 0))
 started_sound v ch t h may some none =
     let x : ChannelSchedule = record (schedule_at v ch) { taken = Some 0 } in
@@ -384,21 +381,21 @@ start_sound : (v : View) (ch : ℕ) (t : Descriptor) (x : Option RunningTransfer
 start_sound v ch t None h g = g refl
 start_sound v ch t (Some r) h g = h
 
-front_sound : (v : View) (ch : ℕ) (x : Option Descriptor) (taken : Option ℕ) → IsSound v → ch < channels v → (channel (object_of v) ch).halted ≡ false
-    → (schedule_at v ch).paused ≡ false → issued_front (channel (object_of v) ch) ≡ x → (schedule_at v ch).taken ≡ taken → IsSound (front_turn v ch x taken).1
+front_sound : (v : View) (ch : ℕ) (x : Option Descriptor) (taken : Option ℕ) → IsSound v → ch < channels v → (state_at v ch).halted ≡ false
+    → (schedule_at v ch).paused ≡ false → issued_front (state_at v ch) ≡ x → (schedule_at v ch).taken ≡ taken → IsSound (front_turn v ch x taken).1
 front_sound v ch None taken h less goes active is at = h
 front_sound v ch (Some t) None h less goes active is at =
     start_sound v ch t (first_conflicting v t) h (λ none. started_sound v ch t h (less, goes, active, at) is none)
 front_sound v ch (Some t) (Some n) h less goes active is at =
     let f = runs_at_law v ch n h less at in
     let same : f.transfer ≡ t = let e : Some f.transfer ≡ Some t = sym f.it.issued ∙ is in cc in
-    let r : Runs v ch n t = record { sound = h; less = less; taken = at; it = subst (λ u. IsFront (channel (object_of v) ch) u n) same f.it } in
+    let r : Runs v ch n t = record { sound = h; less = less; taken = at; it = subst (λ u. IsFront (state_at v ch) u n) same f.it } in
     cond_both {A = Stepped} (v.steps == last_step) (Err StepsSpent, v) (insn_turn v ch t n (member t n)) IsSoundStep (λ _. h)
     (λ _. insn_sound v ch n t r (member t n) refl)
 
 turn_sound_law : (v : View) (ch : ℕ) → IsSound v → IsSound (turn v ch).1
 turn_sound_law v ch h =
-    let c = channel (object_of v) ch in
+    let c = state_at v ch in
     let s = schedule_at v ch in
     let last = front_turn v ch (issued_front c) s.taken in
     let third : Stepped = if s.paused then (Ok Paused, v) else last in
@@ -419,9 +416,9 @@ unless_sound v None x h g = g refl
 unless_sound v (Some fault) x h g = h
 
 pub submit_sound : (v : View) (ch : ℕ) (t : Descriptor) → IsCall (Submit ch t) → IsSound v → submit_fault v ch t ≡ None →
-    IsSound (with_entry v (Submitted ch t (used (channel (object_of v) ch) + 1)))
+    IsSound (with_entry v (Submitted ch t (used (state_at v ch) + 1)))
 submit_sound v ch t rules h none =
-    let c = channel (object_of v) ch in
+    let c = state_at v ch in
     let taken = (schedule_at v ch).taken in
     let may = submit_open v ch t none in
     let agrees = h.fits.each ch may.0 in
@@ -430,18 +427,18 @@ submit_sound v ch t rules h none =
 
 pub issue_sound : (v : View) (ch : ℕ) → IsSound v → ch < channels v → IsSound (with_entry v (Issued ch))
 issue_sound v ch h less =
-    let c = channel (object_of v) ch in
+    let c = state_at v ch in
     let taken = (schedule_at v ch).taken in
     queue_sound v ch h less (Issued ch) (record c { issued = used c }) less refl (agrees_issued c taken (h.fits.each ch less)) (runs_issued ch c taken)
 
 pub pause_sound : (v : View) (ch : ℕ) (paused : Bool) → IsSound v → ch < channels v → IsSound (with_pause v ch paused)
 pause_sound v ch paused h less =
     let x : ChannelSchedule = record (schedule_at v ch) { paused = paused } in
-    schedule_sound v ch h less v.steps x (fits_still v ch h less (channel (object_of v) ch) x (h.fits.each ch less) (λ y free. free))
+    schedule_sound v ch h less v.steps x (fits_still v ch h less (state_at v ch) x (h.fits.each ch less) (λ y free. free))
 
 pub terminate_sound : (v : View) (ch : ℕ) → IsSound v → ch < channels v → IsSound (terminated v ch)
 terminate_sound v ch h less =
-    let c = channel (object_of v) ch in
+    let c = state_at v ch in
     let done = done_on v ch in
     change_sound v ch h less v.steps (Terminated ch done (unfinished c)) (with_all_aborted c done) idle (less, refl, stored_there v ch h less) refl
     (refl, refl) (λ y free. tt)
@@ -466,14 +463,14 @@ answer_sound v (Read addr len) is h =
     unless_sound v (read_fault v addr len) (Bytes bytes, with_entry v (ReadBack addr bytes)) h
     (λ free. entered_sound v (ReadBack addr bytes) h (read_entry v addr len bytes free refl) refl)
 answer_sound v (Submit ch t) is h =
-    let cookie = used (channel (object_of v) ch) + 1 in
+    let cookie = used (state_at v ch) + 1 in
     unless_sound v (submit_fault v ch t) (Cookie cookie, with_entry v (Submitted ch t cookie)) h (λ none. submit_sound v ch t is h none)
 answer_sound v (Issue ch) is h = unless_sound v (channel_fault v ch) _ h (λ none. issue_sound v ch h (channel_open v ch none))
 answer_sound v (Pause ch) is h = unless_sound v (channel_fault v ch) (Done, with_pause v ch true) h (λ none. pause_sound v ch true h (channel_open v ch none))
 answer_sound v (Resume ch) is h =
     unless_sound v (channel_fault v ch) (Done, with_pause v ch false) h (λ none. pause_sound v ch false h (channel_open v ch none))
 answer_sound v (Terminate ch) is h =
-    let count = unfinished (channel (object_of v) ch) in
+    let count = unfinished (state_at v ch) in
     unless_sound v (channel_fault v ch) (Count count, terminated v ch) h (λ none. terminate_sound v ch h (channel_open v ch none))
 answer_sound v (Step ch) is h = turn_sound_law v ch h
 answer_sound v (Mark kind s) is h =

@@ -8,8 +8,8 @@ use Rattle.dma_mem.specs.{Meeting.IsFree, Rules.IsTransfer, declared.marks.MarkK
 use Rattle.dma_mem.proofs.SharedPlaces.{is_free_of_true}
 use Rattle.dma_engine.specs.declared.entry.Entry.TheVariants.{Submitted, Issued, Passed, Signalled, Finished, Terminated, Marked, Unmarked}
 use Rattle.dma_engine.specs.Object.{Object, ChannelState, Allows, IsMark, after, channel, with_channel, front, IsBase, with_flag, with_front_laid}
-use Rattle.dma_engine.specs.View.{View, ChannelSchedule, RunningTransfer, AreFree, Fits, IsSound, runs, object_of, size}
-use Rattle.dma_engine.specs.inner.Holds.{Holds, Parts, view_of}
+use Rattle.dma_engine.specs.View.{View, ChannelSchedule, RunningTransfer, AreFree, Fits, IsSound, runs, size, state_at}
+use Rattle.dma_engine.specs.inner.Holds.{Holds, Parts, view_of, state_in}
 use Rattle.dma_engine.specs.{declared.entry.Entry.Entry, declared.entry.Signaller.TheVariants.Channel, History.object_after, History.IsLegal}
 use Rattle.dma_engine.proofs.{Boards.each_with, Sizes.size_after, Sizes.size_object, WhatRuns.All_filter_map, WhatRuns.above, WhatRuns.below}
 
@@ -39,11 +39,11 @@ ruled_after n o (Submitted ch t cookie) m h a =
       | inl old ↦ h ch k u old
       | inr new ↦ subst (IsGood n) new (a.1, below)
     ])
-ruled_after n o (Issued ch) m h a = ruled_with n o ch _ h (λ k u is. h ch k u is)
-ruled_after n o (Passed ch event) m h a = ruled_with n (with_flag o event false) ch _ h (λ k u is. h ch k u is)
-ruled_after n o (Signalled (Channel ch) event) m h a = ruled_with n (with_flag o event true) ch _ h (λ k u is. h ch k u is)
-ruled_after n o (Finished ch result done) m h a = ruled_with n (with_front_laid o ch done) ch _ h (λ k u is. h ch k u is)
-ruled_after n o (Terminated ch done count) m h a = ruled_with n (with_front_laid o ch done) ch _ h (λ k u is. h ch k u is)
+ruled_after n o (Issued ch) m h a = ruled_with n o ch _ h (h ch)
+ruled_after n o (Passed ch event) m h a = ruled_with n (with_flag o event false) ch _ h (h ch)
+ruled_after n o (Signalled (Channel ch) event) m h a = ruled_with n (with_flag o event true) ch _ h (h ch)
+ruled_after n o (Finished ch result done) m h a = ruled_with n (with_front_laid o ch done) ch _ h (h ch)
+ruled_after n o (Terminated ch done count) m h a = ruled_with n (with_front_laid o ch done) ch _ h (h ch)
 ruled_after n o e m h a = h
 
 pub ruled_object : (n : ℕ) (o : Object) (es : List Entry) → length o.image ≡ n → AreRuled n o → IsLegal o es → AreRuled n (object_after o es)
@@ -74,13 +74,13 @@ marked_object o (e ∷ es) h a = marked_object (after o e) es (marked_after o e 
 -- ---- the front of a channel
 
 -- each front of a sound view obeys the rules and lies below the size
-pub ruled_front : (v : View) (ch : ℕ) (t : Descriptor) → IsSound v → front (channel (object_of v) ch) ≡ Some t → IsGood (size v) t
+pub ruled_front : (v : View) (ch : ℕ) (t : Descriptor) → IsSound v → front (state_at v ch) ≡ Some t → IsGood (size v) t
 ruled_front v ch t h is =
     let good = ruled_object (length v.base.image) v.base v.history refl (ruled_base v.base h.opens) h.legal ch _ t is in
     let same : size v ≡ length v.base.image = size_object v.base v.history in
     (good.0, ap (lies_below t) same ∙ good.1)
 
-pub good_front : (p : Parts) → Holds p → (ch : ℕ) (t : Descriptor) → front (channel (object_of (view_of p)) ch) ≡ Some t → IsGood (size (view_of p)) t
+pub good_front : (p : Parts) → Holds p → (ch : ℕ) (t : Descriptor) → front (state_in p ch) ≡ Some t → IsGood (size (view_of p)) t
 good_front p h ch t is = ruled_front (view_of p) ch t h.sound is
 
 -- ---- what else runs is free of it

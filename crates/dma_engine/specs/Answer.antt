@@ -8,12 +8,13 @@ use Rattle.dma_engine.specs.declared.entry.Entry.TheVariants.{Wrote, ReadBack, S
 use Rattle.dma_engine.specs.declared.turn.Status.TheVariants.{Unknown, InProgress, Complete}
 use Rattle.dma_engine.specs.declared.fault.EngineFault.TheVariants.{OutOfMemoryRange, Busy, Running, NoChannel, CookiesSpent, BadEvent, BadRange, NoMemory}
 use Rattle.dma_engine.specs.Object.{Object, base_from, channel, used, finished, unfinished, last_cookie}
-use Rattle.dma_engine.specs.View.{View, RunningTransfer, object_of, schedule_at, size, channels, idle, runs, running}
+use Rattle.dma_engine.specs.View.{View, RunningTransfer, object_of, schedule_at, size, channels, idle, runs, running, state_at}
 use Rattle.dma_engine.specs.{declared.entry.Entry.Entry, declared.entry.Signaller.TheVariants.Host, declared.call.Reply.Reply, declared.turn.Turn.Turn}
 use Rattle.dma_engine.specs.{declared.turn.Turn.TheVariants.Started, declared.fault.EngineFault.EngineFault, declared.fault.SubmitFault.SubmitFault}
 use Rattle.dma_engine.specs.{declared.outcome.Outcome.Outcome, Turn.with_entry, Turn.turn}
 use Rattle.dma_chan.specs.Traffic.{stored_after}
-use Rattle.dma_mem.specs.declared.call.Call.TheVariants.{Write, Read, Submit, Issue, Pause, Resume, Terminate, Step, Status, Result as ResultOf, Mark, Unmark, Raise, Checkpoint}
+use Rattle.dma_mem.specs.declared.call.Call.TheVariants.{Write, Read, Submit, Issue, Pause, Resume, Terminate, Step, Status, Mark, Unmark, Raise, Checkpoint}
+use Rattle.dma_mem.specs.declared.call.Call.TheVariants.{Result as ResultOf}
 use Rattle.dma_engine.specs.declared.call.Reply.TheVariants.{Done, Bytes, Cookie, Count, Turned, State, Result as Resulted, Refused}
 use Rattle.dma_engine.specs.declared.turn.Status.{Status as EngineStatus}
 
@@ -54,7 +55,7 @@ abbrev pub submit_fault : View → ℕ → Descriptor → Option EngineFault
 submit_fault v ch t =
     cause (nat_le (channels v) ch) NoChannel (
     cause (not (lies_below t (size v))) OutOfMemoryRange (
-    cause (nat_le last_cookie (used (channel (object_of v) ch))) CookiesSpent None))
+    cause (nat_le last_cookie (used (state_at v ch))) CookiesSpent None))
 
 -- the cookie, or the first cause
 abbrev pub checked : Option EngineFault → ℕ → Result ℕ EngineFault
@@ -90,7 +91,7 @@ done_on v ch = option_map_or (λ r. stored_after r.transfer r.taken) (runs (obje
 -- the view after a terminate: all unfinished cookies are aborted, and the channel neither runs nor is paused
 abbrev pub terminated : View → ℕ → View
 terminated v ch =
-    record (with_entry v (Terminated ch (done_on v ch) (unfinished (channel (object_of v) ch)))) {
+    record (with_entry v (Terminated ch (done_on v ch) (unfinished (state_at v ch)))) {
       schedule = slice_set v.schedule ch idle;
     }
 
@@ -103,7 +104,7 @@ status_by used finished cookie =
 
 -- the status of a cookie
 abbrev pub status_in : View → ℕ → ℕ → EngineStatus
-status_in v ch cookie = let c = channel (object_of v) ch in status_by (used c) (finished c) cookie
+status_in v ch cookie = let c = state_at v ch in status_by (used c) (finished c) cookie
 
 -- how a cookie finished, or None if it hasn't finished or is forgotten
 abbrev pub result_of : Object → ℕ → ℕ → Option Outcome
@@ -126,7 +127,7 @@ count_reply result = reply_of (λ count. Count count) result
 
 -- the cookie that a submit returns, or the first cause of its refusal
 abbrev pub next_cookie : View → ℕ → Descriptor → Result ℕ EngineFault
-next_cookie v ch t = checked (submit_fault v ch t) (used (channel (object_of v) ch) + 1)
+next_cookie v ch t = checked (submit_fault v ch t) (used (state_at v ch) + 1)
 
 -- the bytes of a range of the object's image
 abbrev pub bytes_in : View → ℕ → ℕ → List ℕ
@@ -149,14 +150,14 @@ answer v (Read addr len) =
     let bytes = bytes_in v addr len in
     unless (read_fault v addr len) v (Bytes bytes, with_entry v (ReadBack addr bytes))
 answer v (Submit ch t) =
-    let cookie = used (channel (object_of v) ch) + 1 in
+    let cookie = used (state_at v ch) + 1 in
     unless (submit_fault v ch t) v (Cookie cookie, with_entry v (Submitted ch t cookie))
 answer v (Issue ch) =
-    let c = channel (object_of v) ch in
+    let c = state_at v ch in
     unless (channel_fault v ch) v (Count (used c - c.issued), with_entry v (Issued ch))
 answer v (Pause ch) = unless (channel_fault v ch) v (Done, with_pause v ch true)
 answer v (Resume ch) = unless (channel_fault v ch) v (Done, with_pause v ch false)
-answer v (Terminate ch) = unless (channel_fault v ch) v (Count (unfinished (channel (object_of v) ch)), terminated v ch)
+answer v (Terminate ch) = unless (channel_fault v ch) v (Count (unfinished (state_at v ch)), terminated v ch)
 answer v (Step ch) = (reply_of Turned (turn v ch).0, (turn v ch).1)
 answer v (Status ch cookie) = (State (status_in v ch cookie), v)
 answer v (ResultOf ch cookie) = (Resulted (result_of (object_of v) ch cookie), v)
@@ -225,7 +226,7 @@ KeepsOutcomes old new =
 abbrev pub Remembers : View → View → Type 0
 Remembers old new =
     (ch cookie : ℕ) (x : Outcome) → result_of (object_of old) ch cookie ≡ Some x
-    → (result_of (object_of new) ch cookie ≡ Some x) ⊎ (cookie ≤ (channel (object_of new) ch).forgotten)
+    → (result_of (object_of new) ch cookie ≡ Some x) ⊎ (cookie ≤ (state_at new ch).forgotten)
 
 -- the replies to calls in order, and the view after them, when memory doesn't run out
 abbrev pub answers : View → List Call → List Reply × View

@@ -5,12 +5,12 @@ use Rattle.std.specs.List.{All}
 use Rattle.dma_mem.specs.declared.call.Call.TheVariants.{Submit, Terminate, Step, Checkpoint}
 use Rattle.dma_mem.specs.{Limits.most_channels, Places.Descriptor, Rules.IsTransfer, declared.call.Call.Call}
 use Rattle.dma_engine.specs.declared.call.Reply.TheVariants.{Cookie, Count, Done, Turned, Refused}
-use Rattle.dma_engine.specs.Object.{channel, finished, finished_all, last_cookie, unfinished, used}
+use Rattle.dma_engine.specs.Object.{finished, finished_all, last_cookie, unfinished, used}
 use Rattle.dma_engine.specs.Ticks.{Tick, Submitted, Finished, board_after, board_of, counts, status_of, tick_channel, ticks_of}
 use Rattle.dma_engine.specs.Turn.{ends, finishes_in, steps_in, turn}
 use Rattle.dma_engine.specs.Answer.{CallAnswers, AreAnswers, StepAnswers, Extends, KeepsOutcomes, answer, answers, has_checkpoint, is_checkpoint, reply_of}
 use Rattle.dma_engine.specs.Answer.{status_in}
-use Rattle.dma_engine.specs.View.{View, IsSound, channels, new_fault, new_view, object_of}
+use Rattle.dma_engine.specs.View.{View, IsSound, channels, new_fault, new_view, object_of, state_at}
 use Rattle.dma_engine.specs.{declared.call.Reply.Reply, declared.entry.Entry.Entry, declared.fault.EngineFault.EngineFault}
 use Rattle.dma_engine.specs.{declared.fault.EngineFault.TheVariants.NoMemory, declared.turn.Turn.Turn, Room.IsIdle}
 
@@ -52,15 +52,15 @@ QuietCallsKeepCounts = (v w : View) (call : Call) (reply : Reply) → IsQuiet ca
 abbrev pub SubmitsAdd : Type 0
 SubmitsAdd =
     (v w : View) (ch cookie : ℕ) (t : Descriptor) → CallAnswers v (Submit ch t) (Cookie cookie) w
-    → Adds v w (Submitted ch ∷ []) 0 0 × (ch < channels w) × (0 < cookie) × (cookie ≡ used (channel (object_of w) ch))
+    → Adds v w (Submitted ch ∷ []) 0 0 × (ch < channels w) × (0 < cookie) × (cookie ≡ used (state_at w ch))
 
 -- An accepted terminate adds its tick. It finishes as many cookies as were unfinished, and then all cookies of the
 -- channel, which exists, are finished.
 abbrev pub TerminatesAdd : Type 0
 TerminatesAdd =
     (v w : View) (ch count : ℕ) → CallAnswers v (Terminate ch) (Count count) w
-    → Adds v w (Finished ch count ∷ []) 0 count × (ch < channels w) × (count ≡ unfinished (channel (object_of v) ch))
-    × (used (channel (object_of w) ch) ≤ finished (channel (object_of w) ch))
+    → Adds v w (Finished ch count ∷ []) 0 count × (ch < channels w) × (count ≡ unfinished (state_at v ch))
+    × (used (state_at w ch) ≤ finished (state_at w ch))
 
 -- A step adds the tick, the step and the finished cookie of its answer.
 abbrev pub StepsAdd : Type 0

@@ -1,8 +1,8 @@
 -- Room that is allocated before it is needed.
 use Rattle.std.specs.Prelude.{◌≡◌, ◌≢◌, ℕ, ◌<◌, ◌≤◌, None, Result, Ok, IfErr, slice_index_or}
-use Rattle.dma_engine.specs.{declared.fault.EngineFault.EngineFault, declared.fault.EngineFault.TheVariants.NoMemory, declared.turn.Turn.Turn}
+use Rattle.dma_engine.specs.{declared.fault.EngineFault.EngineFault, declared.fault.EngineFault.TheVariants.NoMemory, declared.turn.Turn.Turn, View.state_at}
 use Rattle.dma_engine.specs.{declared.turn.Turn.TheVariants.Started, declared.turn.Turn.TheVariants.Moved, declared.turn.Turn.TheVariants.Finished}
-use Rattle.dma_engine.specs.{Object.channel, Object.unfinished, View.EngineState, View.QueueRoom, View.Room, View.View, View.object_of, View.schedule_at}
+use Rattle.dma_engine.specs.{Object.unfinished, View.EngineState, View.QueueRoom, View.Room, View.View, View.schedule_at}
 
 -- the room of a channel that doesn't exist
 abbrev pub no_room : QueueRoom
@@ -17,7 +17,7 @@ room_on r ch = slice_index_or r.queues ch no_room
 pub record HasRoom (e : EngineState) (ch : ℕ) : Type 0 where
   pub entry : 0 < e.room.entries
   pub cookie : 0 < (room_on e.room ch).indices
-  pub outcomes : unfinished (channel (object_of e.view) ch) ≤ (room_on e.room ch).outcomes
+  pub outcomes : unfinished (state_at e.view ch) ≤ (room_on e.room ch).outcomes
 
 -- The lists of entries, indices and outcomes have no room: memory that they don't need is freed.
 abbrev pub HasNoSpare : EngineState → Type 0

@@ -44,6 +44,10 @@ idle = record { paused = false; taken = None }
 abbrev pub object_of : View → Object
 object_of v = object_after v.base v.history
 
+-- the state of a channel
+abbrev pub state_at : View → ℕ → ChannelState
+state_at v ch = channel (object_of v) ch
+
 -- the schedule of a channel, or an idle one if there is no such channel
 abbrev pub schedule_at : View → ℕ → ChannelSchedule
 schedule_at v ch = slice_index_or v.schedule ch idle

@@ -44,71 +44,6 @@ Fits work size = (a : ℕ) → Uses work a → a < size
 abbrev pub AreCleared : Work → Trace → Type 0
 AreCleared work x = (a : ℕ) → Contains x.zeros a → Contains (cleared work) a
 
-pub zeros_in : (start : Registers) (program : List ℕ) (work : Work) (n : ℕ) → Explains start program work n → (k : ℕ) → k ≤ n
-    → AreCleared work (traced start program k)
-zeros_in start program work n h k l a i =
-    let part = inside start program work n h k l in
-    subst (λ (xs : List ℕ). Contains xs a) (sym part.zeros) (Contains-append_left (traced start program k).zeros part.zeros_rest a i)
-
--- Before instruction number k of the n before DMAEND: how far the channel is in the program, and at every address that
--- the work uses the memory is the first one with the bytes stored so far laid over it.
-pub record Among (start : Registers) (program : List ℕ) (work : Work) (n : ℕ) (first : List ℕ) (k : ℕ) (image : List ℕ) (c : ChannelValue) : Type 0 where
-  pub begins : IsSomeAnd c.program (λ p. StartsWith p program)
-  pub within : k ≤ n
-  pub taken : c.taken ≡ k
-  pub stored : let x = traced start program k in c.stored ≡ length x.stores + length x.zeros
-  pub part : AreCleared work (traced start program k)
-  pub mirrors : Mirrors work first (traced start program k) c.registers c.buffer image
-
-pub is_in : (start : Registers) (program : List ℕ) (work : Work) (n : ℕ) (first : List ℕ) (k : ℕ) (image : List ℕ) (c : ChannelValue)
-    → Among start program work n first k image c → IsIn start program n k c
-is_in start program work n first k image c w = record { begins = w.begins; within = w.within; registers = w.mirrors.registers_are }
-
--- a channel into which the program was just loaded, over the first memory
-pub at_start : (start : Registers) (program : List ℕ) (work : Work) (n : ℕ) (first : List ℕ) (c : ChannelValue) → Fits work (length first)
-    → IsLoadedWith start program c → Among start program work n first 0 first c
-at_start start program work n first c low l =
-    subst (Among start program work n first 0 first) (sym l.2) (record {
-      begins = l.1;
-      within = omega arith;
-      taken = refl;
-      stored = refl;
-      part = λ a i. absurd (omega (arith, i.1));
-      mirrors = record {
-        registers_are = refl;
-        buffer_is = refl;
-        few = omega arith;
-        same =
-            λ a i. ap (λ (x : List ℕ). get_or x a 0) (sym (laid_none first work.copy));
-        zeros = λ a i. absurd (omega (arith, i.1));
-        rest = λ a i off. refl;
-        fits =
-            low;
-      };
-    })
-
--- what others do
-pub kept : (start : Registers) (program : List ℕ) (work : Work) (n : ℕ) (first : List ℕ) (k : ℕ) (image other : List ℕ) (c d : ChannelValue)
-    → Among start program work n first k image c → d ≡ c → ((a : ℕ) → Uses work a → get_or other a 0 ≡ get_or image a 0) → Fits work (length other)
-    → Among start program work n first k other d
-kept start program work n first k image other c d w same unchanged fits =
-    subst (Among start program work n first k other) (sym same) (record {
-      begins = w.begins;
-      within = w.within;
-      taken = w.taken;
-      stored = w.stored;
-      part = w.part;
-      mirrors = record {
-        registers_are = w.mirrors.registers_are;
-        buffer_is = w.mirrors.buffer_is;
-        few = w.mirrors.few;
-        same = λ a i. unchanged a (inl i) ∙ w.mirrors.same a i;
-        zeros = λ a i. unchanged a (inr (w.part a i)) ∙ w.mirrors.zeros a i;
-        rest = λ a i off. unchanged a (inr i) ∙ w.mirrors.rest a i off;
-        fits = fits;
-      };
-    })
-
 -- the program has ended, and the work is done
 pub record IsDone (start : Registers) (program : List ℕ) (work : Work) (first : List ℕ) (u : Machine) : Type 0 where
   pub dropped : u.channel.program ≡ None
@@ -128,128 +63,178 @@ stored_insn St x c = let b = destination_of x.registers in omega (arith, length-
 stored_insn StoreZeros x c = let b = destination_of x.registers in omega (arith, length-append x.zeros (touched b), length_up b c)
 stored_insn i x c = omega arith
 
-module _ (start : Registers) (program : List ℕ) (work : Work) (n : ℕ) (marks : MarkList) (first : List ℕ) (h : Explains start program work n)
-    (low : Fits work (length first)) where
-  -- what the answer of a step says
-  abbrev pub After : ℕ → Machine → ChanTurn → Type 0
-  After k u Moved = Among start program work n first (suc k) (after_step marks u).image (after_step marks u).channel
-  After k u (Waiting e) = IsWait start program n e
-  After k u Ended = IsDone start program work first (after_step marks u)
-  After k u (Fault kind) = ¬ MissesAll marks work
+-- a program with n instructions before its DMAEND, which a work explains
+module _ (start : Registers) (program : List ℕ) (work : Work) (n : ℕ) where
+  abbrev there : ℕ → Trace
+  there = traced start program
 
-  waits_at : (k : ℕ) (i : ChipInsn) (x : ℕ) → k < n → next_in program (traced start program k) ≡ Ok i → (v : Bool) × (i ≡ Wfe x v) → IsWait start program n x
-  waits_at k i x less next a =
-      record { step = k; within = less; invalid = a.0; waits = next ∙ ap (λ (j : ChipInsn). Ok j) a.1 }
+  pub zeros_in : Explains start program work n → (k : ℕ) → k ≤ n → AreCleared work (there k)
+  zeros_in h k l a i =
+      let part = inside start program work n h k l in
+      subst (λ (xs : List ℕ). Contains xs a) (sym part.zeros) (Contains-append_left (there k).zeros part.zeros_rest a i)
 
-  to : (k : ℕ) (u : Machine) (i : ChipInsn) (turn : ChanTurn) → answer_at marks u ≡ turn → Among start program work n first k u.image u.channel → k < n
-      → next_in program (traced start program k) ≡ Ok i → Can i (traced start program k)
-      → Answers work first marks i (traced start program (suc k)) (turn, (step_of marks u.channel u.image u.flags).1) → After k u turn
-  to k u i Moved e w less next go a =
-      let c = u.channel in
-      let ahead = ahead_at start program k i c w.begins w.mirrors.registers_are next in
-      let count : stored_by (ahead_of c) c.registers ≡ stored_by (Ok i) (traced start program k).registers =
-      ap (λ (r : Result ChipInsn FaultKind). stored_by r c.registers) ahead ∙ ap (stored_by (Ok i)) w.mirrors.registers_are in
-      let more : all_stored (traced start program (suc k)) ≡ all_stored (traced start program k) + stored_by (Ok i) (traced start program k).registers =
-      ap all_stored (traced_next start program work n h k i next) ∙ stored_insn i (traced start program k) go in
-      subst (Among start program work n first (suc k) (after_step marks u).image) (sym (turned marks u Moved e)) (record {
-        begins = w.begins;
-        within = omega (arith, less);
-        taken = omega (arith, w.taken);
-        stored = omega (arith, w.stored, count, more);
-        part = zeros_in start program work n h (suc k) less;
-        mirrors = a;
-      })
-  to k u i (Waiting x) e w less next go a = waits_at k i x less next a
-  to k u i Ended e w less next go a = absurd a
-  to k u i (Fault kind) e w less next go a = a
+  -- Before instruction number k of the n before DMAEND: how far the channel is in the program, and at every address that
+  -- the work uses the memory is the first one with the bytes stored so far laid over it.
+  pub record Among (first : List ℕ) (k : ℕ) (image : List ℕ) (c : ChannelValue) : Type 0 where
+    pub begins : IsSomeAnd c.program (λ p. StartsWith p program)
+    pub within : k ≤ n
+    pub taken : c.taken ≡ k
+    pub stored : let x = there k in c.stored ≡ length x.stores + length x.zeros
+    pub part : AreCleared work (there k)
+    pub mirrors : Mirrors work first (there k) c.registers c.buffer image
 
-  answers_at : (k : ℕ) (u : Machine) (i : ChipInsn) → Among start program work n first k u.image u.channel → k < n
-      → next_in program (traced start program k) ≡ Ok i → Can i (traced start program k)
-      → Answers work first marks i (traced start program (suc k)) (step_of marks u.channel u.image u.flags)
-  answers_at k u i w less next go =
-      let c = u.channel in
-      let x = traced start program k in
-      let does : step_of marks c u.image u.flags ≡ act marks i (state x.registers c.buffer u.image u.flags) =
-      does_next marks i u (ahead_at start program k i c w.begins w.mirrors.registers_are next)
-      ∙ ap (λ (r : Registers). act marks i (state r c.buffer u.image u.flags)) w.mirrors.registers_are in
-      let m : Mirrors work first x x.registers c.buffer u.image =
-      record {
-        registers_are = refl;
-        buffer_is = w.mirrors.buffer_is;
-        few = w.mirrors.few;
-        same = w.mirrors.same;
-        zeros = w.mirrors.zeros;
-        rest =
-            w.mirrors.rest;
-        fits = w.mirrors.fits;
-      } in
-      let same = traced_next start program work n h k i next in
-      let all = answers work first marks h.work low x c.buffer u.image u.flags m i
-      (subst (Inside work) same (inside start program work n h (suc k) (omega (arith, less)))) (inside start program work n h k w.within) go in
-      subst (λ (y : Trace). Answers work first marks i y (step_of marks c u.image u.flags)) (sym same)
-      (subst (Answers work first marks i (after_insn i x)) (sym does) all)
+  pub is_in : (first : List ℕ) (k : ℕ) (image : List ℕ) (c : ChannelValue) → Among first k image c → IsIn start program n k c
+  is_in first k image c w = record { begins = w.begins; within = w.within; registers = w.mirrors.registers_are }
 
-  -- what the answer of a step before DMAEND says
-  abbrev pub Before : ChanTurn → Type 0
-  Before Moved = Unit {0}
-  Before (Waiting e) = IsWait start program n e
-  Before Ended = ⊥
-  Before (Fault kind) = ¬ MissesAll marks work
-
-  went : (k : ℕ) (i : ChipInsn) (x : Trace) (turn : ChanTurn) (s : State) → k < n → next_in program (traced start program k) ≡ Ok i
-      → Answers work first marks i x (turn, s) → Before turn
-  went k i x Moved s less next a = tt
-  went k i x (Waiting e) s less next a = waits_at k i e less next a
-  went k i x turn s less next a = a
-
-  before_by : (k : ℕ) (u : Machine) (turn : ChanTurn) → answer_at marks u ≡ turn → Among start program work n first k u.image u.channel → k < n
-      → Nexts start program work n k → Before turn
-  before_by k u turn e w l (Ends last next) = absurd (omega (arith, l, last))
-  before_by k u turn e w l (Goes i less next go) =
-      let s = (step_of marks u.channel u.image u.flags).1 in
-      went k i (traced start program (suc k)) turn s less next
-      (subst (λ (v : ChanTurn). Answers work first marks i (traced start program (suc k)) (v, s)) e (answers_at k u i w less next go))
-
-  pub goes_on_at : (k : ℕ) (u : Machine) (turn : ChanTurn) → answer_at marks u ≡ turn → Among start program work n first k u.image u.channel → k < n
-      → Before turn
-  goes_on_at k u turn e w l = before_by k u turn e w l (nexts start program work n h k w.within)
-
-  by_next : (k : ℕ) (u : Machine) (turn : ChanTurn) → answer_at marks u ≡ turn → Among start program work n first k u.image u.channel
-      → Nexts start program work n k → After k u turn
-  by_next k u turn e w (Goes i less next go) =
-      let s = (step_of marks u.channel u.image u.flags).1 in
-      to k u i turn e w less next go
-      (subst (λ (v : ChanTurn). Answers work first marks i (traced start program (suc k)) (v, s)) e (answers_at k u i w less next go))
-  by_next k u turn e w (Ends last next) =
-      let c = u.channel in
-      let ahead = ahead_at start program k End c w.begins w.mirrors.registers_are next in
-      let does = does_next marks End u ahead in
-      let over : turn ≡ Ended = sym e ∙ ends_then marks u ahead in
-      let is_after = turned marks u Ended (ends_then marks u ahead) in
-      let count : length (traced start program k).stores ≡ size_of work.copy = ap (λ (j : ℕ). length (traced start program j).stores) last
-      ∙ ap length h.stores in
-      let zeros : (traced start program k).zeros ≡ cleared work = ap (λ (j : ℕ). (traced start program j).zeros) last ∙ h.zeros in
-      let still : (step_of marks u.channel u.image u.flags).1.image ≡ u.image = ap (λ (y : ChanTurn × State). y.1.image) does in
-      subst (After k u) (sym over) (record {
-        dropped = ap (λ (d : ChannelValue). d.program) is_after;
-        done =
-            ap (λ (d : ChannelValue). amounts_of (traced start program d.taken)) is_after
-            ∙ ap (λ (j : ℕ). amounts_of (traced start program j)) (let later : u.channel.taken + 1 ≡ suc k = omega (arith, w.taken) in later)
-            ∙ ap amounts_of (traced_next start program work n h k End next)
-            ∙ ap (λ (m : ℕ). amounts m (length (traced start program k).zeros)) count
-            ∙ ap (λ (xs : List ℕ). amounts (size_of work.copy) (length xs)) zeros;
-        stored = ap (λ (d : ChannelValue). d.stored) is_after ∙ omega (arith, w.stored, count, ap length zeros);
-        all = record {
-          copied = λ a touches.
-              ap (λ (x : List ℕ). get_or x a 0) still ∙ w.mirrors.same a touches
-              ∙ ap (λ (j : ℕ). get_or (laid first work.copy j) a 0) count;
-          zeros = λ a i.
-              ap (λ (x : List ℕ). get_or x a 0) still ∙ w.mirrors.zeros a (subst (λ (xs : List ℕ). Contains xs a) (sym zeros) i);
+  -- a channel into which the program was just loaded, over the first memory
+  pub at_start : (first : List ℕ) (c : ChannelValue) → Fits work (length first) → IsLoadedWith start program c → Among first 0 first c
+  at_start first c low l =
+      subst (Among first 0 first) (sym l.2) (record {
+        begins = l.1;
+        within = omega arith;
+        taken = refl;
+        stored = refl;
+        part = λ a i. absurd (omega (arith, i.1));
+        mirrors = record {
+          registers_are = refl;
+          buffer_is = refl;
+          few = omega arith;
+          same = λ a i. ap (λ (x : List ℕ). get_or x a 0) (sym (laid_none first work.copy));
+          zeros = λ a i. absurd (omega (arith, i.1));
+          rest = λ a i off. refl;
+          fits = low;
         };
       })
 
-  pub after_next : (k : ℕ) (u : Machine) (turn : ChanTurn) → answer_at marks u ≡ turn → Among start program work n first k u.image u.channel → After k u turn
-  after_next k u turn e w = by_next k u turn e w (nexts start program work n h k w.within)
+  -- what others do
+  pub kept : (first : List ℕ) (k : ℕ) (image other : List ℕ) (c d : ChannelValue) → Among first k image c → d ≡ c
+      → ((a : ℕ) → Uses work a → get_or other a 0 ≡ get_or image a 0) → Fits work (length other) → Among first k other d
+  kept first k image other c d w same unchanged fits =
+      subst (Among first k other) (sym same) (record {
+        begins = w.begins;
+        within = w.within;
+        taken = w.taken;
+        stored = w.stored;
+        part = w.part;
+        mirrors = record {
+          registers_are = w.mirrors.registers_are;
+          buffer_is = w.mirrors.buffer_is;
+          few = w.mirrors.few;
+          same = λ a i. unchanged a (inl i) ∙ w.mirrors.same a i;
+          zeros = λ a i. unchanged a (inr (w.part a i)) ∙ w.mirrors.zeros a i;
+          rest = λ a i off. unchanged a (inr i) ∙ w.mirrors.rest a i off;
+          fits = fits;
+        };
+      })
+
+  module _ (marks : MarkList) (first : List ℕ) (h : Explains start program work n) (low : Fits work (length first)) where
+    -- what the answer of a step says
+    abbrev pub After : ℕ → Machine → ChanTurn → Type 0
+    After k u Moved = Among first (suc k) (after_step marks u).image (after_step marks u).channel
+    After k u (Waiting e) = IsWait start program n e
+    After k u Ended = IsDone start program work first (after_step marks u)
+    After k u (Fault kind) = ¬ MissesAll marks work
+
+    waits_at : (k : ℕ) (i : ChipInsn) (x : ℕ) → k < n → next_in program (there k) ≡ Ok i → (v : Bool) × (i ≡ Wfe x v) → IsWait start program n x
+    waits_at k i x less next a = record { step = k; within = less; invalid = a.0; waits = next ∙ ap (λ (j : ChipInsn). Ok j) a.1 }
+
+    to : (k : ℕ) (u : Machine) (i : ChipInsn) (turn : ChanTurn) → answer_at marks u ≡ turn → Among first k u.image u.channel → k < n
+        → next_in program (there k) ≡ Ok i → Can i (there k)
+        → Answers work first marks i (there (suc k)) (turn, (step_of marks u.channel u.image u.flags).1) → After k u turn
+    to k u i Moved e w less next go a =
+        let c = u.channel in
+        let ahead = ahead_at start program k i c w.begins w.mirrors.registers_are next in
+        let count : stored_by (ahead_of c) c.registers ≡ stored_by (Ok i) (there k).registers =
+        ap (λ (r : Result ChipInsn FaultKind). stored_by r c.registers) ahead ∙ ap (stored_by (Ok i)) w.mirrors.registers_are in
+        let more : all_stored (there (suc k)) ≡ all_stored (there k) + stored_by (Ok i) (there k).registers =
+        ap all_stored (traced_next start program work n h k i next) ∙ stored_insn i (there k) go in
+        subst (Among first (suc k) (after_step marks u).image) (sym (turned marks u Moved e)) (record {
+          begins = w.begins;
+          within = omega (arith, less);
+          taken = omega (arith, w.taken);
+          stored = omega (arith, w.stored, count, more);
+          part = zeros_in h (suc k) less;
+          mirrors = a;
+        })
+    to k u i (Waiting x) e w less next go a = waits_at k i x less next a
+    to k u i Ended e w less next go a = absurd a
+    to k u i (Fault kind) e w less next go a = a
+
+    answers_at : (k : ℕ) (u : Machine) (i : ChipInsn) → Among first k u.image u.channel → k < n → next_in program (there k) ≡ Ok i → Can i (there k)
+        → Answers work first marks i (there (suc k)) (step_of marks u.channel u.image u.flags)
+    answers_at k u i w less next go =
+        let c = u.channel in
+        let x = there k in
+        let does : step_of marks c u.image u.flags ≡ act marks i (state x.registers c.buffer u.image u.flags) =
+        does_next marks i u (ahead_at start program k i c w.begins w.mirrors.registers_are next)
+        ∙ ap (λ (r : Registers). act marks i (state r c.buffer u.image u.flags)) w.mirrors.registers_are in
+        let m = subst (λ (r : Registers). Mirrors work first x r c.buffer u.image) w.mirrors.registers_are w.mirrors in
+        let same = traced_next start program work n h k i next in
+        let all = answers work first marks h.work low x c.buffer u.image u.flags m i
+        (subst (Inside work) same (inside start program work n h (suc k) (omega (arith, less)))) (inside start program work n h k w.within) go in
+        subst (λ (y : Trace). Answers work first marks i y (step_of marks c u.image u.flags)) (sym same)
+        (subst (Answers work first marks i (after_insn i x)) (sym does) all)
+
+    -- what the answer of a step before DMAEND says
+    abbrev pub Before : ChanTurn → Type 0
+    Before Moved = Unit {0}
+    Before (Waiting e) = IsWait start program n e
+    Before Ended = ⊥
+    Before (Fault kind) = ¬ MissesAll marks work
+
+    went : (k : ℕ) (i : ChipInsn) (x : Trace) (turn : ChanTurn) (s : State) → k < n → next_in program (there k) ≡ Ok i
+        → Answers work first marks i x (turn, s) → Before turn
+    went k i x Moved s less next a = tt
+    went k i x (Waiting e) s less next a = waits_at k i e less next a
+    went k i x turn s less next a = a
+
+    before_by : (k : ℕ) (u : Machine) (turn : ChanTurn) → answer_at marks u ≡ turn → Among first k u.image u.channel → k < n
+        → Nexts start program work n k → Before turn
+    before_by k u turn e w l (Ends last next) = absurd (omega (arith, l, last))
+    before_by k u turn e w l (Goes i less next go) =
+        let s = (step_of marks u.channel u.image u.flags).1 in
+        went k i (there (suc k)) turn s less next
+        (subst (λ (v : ChanTurn). Answers work first marks i (there (suc k)) (v, s)) e (answers_at k u i w less next go))
+
+    pub goes_on_at : (k : ℕ) (u : Machine) (turn : ChanTurn) → answer_at marks u ≡ turn → Among first k u.image u.channel → k < n → Before turn
+    goes_on_at k u turn e w l = before_by k u turn e w l (nexts start program work n h k w.within)
+
+    by_next : (k : ℕ) (u : Machine) (turn : ChanTurn) → answer_at marks u ≡ turn → Among first k u.image u.channel
+        → Nexts start program work n k → After k u turn
+    by_next k u turn e w (Goes i less next go) =
+        let s = (step_of marks u.channel u.image u.flags).1 in
+        to k u i turn e w less next go
+        (subst (λ (v : ChanTurn). Answers work first marks i (there (suc k)) (v, s)) e (answers_at k u i w less next go))
+    by_next k u turn e w (Ends last next) =
+        let c = u.channel in
+        let ahead = ahead_at start program k End c w.begins w.mirrors.registers_are next in
+        let does = does_next marks End u ahead in
+        let over : turn ≡ Ended = sym e ∙ ends_then marks u ahead in
+        let is_after = turned marks u Ended (ends_then marks u ahead) in
+        let count : length (there k).stores ≡ size_of work.copy = ap (λ (j : ℕ). length (there j).stores) last
+        ∙ ap length h.stores in
+        let zeros : (there k).zeros ≡ cleared work = ap (λ (j : ℕ). (there j).zeros) last ∙ h.zeros in
+        let still : (step_of marks u.channel u.image u.flags).1.image ≡ u.image = ap (λ (y : ChanTurn × State). y.1.image) does in
+        subst (After k u) (sym over) (record {
+          dropped = ap (λ (d : ChannelValue). d.program) is_after;
+          done =
+              ap (λ (d : ChannelValue). amounts_of (there d.taken)) is_after
+              ∙ ap (λ (j : ℕ). amounts_of (there j)) (let later : u.channel.taken + 1 ≡ suc k = omega (arith, w.taken) in later)
+              ∙ ap amounts_of (traced_next start program work n h k End next)
+              ∙ ap (λ (m : ℕ). amounts m (length (there k).zeros)) count
+              ∙ ap (λ (xs : List ℕ). amounts (size_of work.copy) (length xs)) zeros;
+          stored = ap (λ (d : ChannelValue). d.stored) is_after ∙ omega (arith, w.stored, count, ap length zeros);
+          all = record {
+            copied = λ a touches.
+                ap (λ (x : List ℕ). get_or x a 0) still ∙ w.mirrors.same a touches
+                ∙ ap (λ (j : ℕ). get_or (laid first work.copy j) a 0) count;
+            zeros = λ a i.
+                ap (λ (x : List ℕ). get_or x a 0) still ∙ w.mirrors.zeros a (subst (λ (xs : List ℕ). Contains xs a) (sym zeros) i);
+          };
+        })
+
+    pub after_next : (k : ℕ) (u : Machine) (turn : ChanTurn) → answer_at marks u ≡ turn → Among first k u.image u.channel → After k u turn
+    after_next k u turn e w = by_next k u turn e w (nexts start program work n h k w.within)
 
 -- ---- a program that copies and doesn't wait, run alone
 
@@ -299,6 +284,15 @@ module _ (program : List ℕ) (t : Descriptor) (n : ℕ) (image : List ℕ) (h :
       ∙ ap (λ (r : Registers). exec program [] (state r w.channel.buffer s.image s.flags)) w.registers
       ∙ ap (λ (b : List ℕ). exec program [] (state s.registers b s.image s.flags)) w.buffer
 
+  -- and changes no byte outside the destinations
+  off_kept : (k : ℕ) (s : State) (w : Along program t n image k s) (a : ℕ) → ¬ Contains (destinations t) a
+      → get_or (step_of [] w.channel s.image s.flags).1.image a 0 ≡ get_or image a 0
+  off_kept k s w a off =
+      (writes_no_other [] w.channel s.image s.flags).bytes a (λ i. off (only_writes t a
+      (next_inside (start_on Ideal) program (only t) n h k w.channel a (is_in (start_on Ideal) program (only t) n image k s.image w.channel w.among)
+      (nexts (start_on Ideal) program (only t) n h k w.among.within) i)))
+      ∙ w.others a off
+
   goes_at : (k : ℕ) (s : State) → k < n → (w : Along program t n image k s) → answer_at [] (at k s w) ≡ Moved
   goes_at k s l w = by (answer_at [] (at k s w)) refl
     where
@@ -324,12 +318,7 @@ module _ (program : List ℕ) (t : Descriptor) (n : ℕ) (image : List ℕ) (h :
         buffer = ap (λ (c : ChannelValue). c.buffer) is ∙ ap (λ (y : State). y.buffer) same;
         among = subst (λ (i : List ℕ). Among (start_on Ideal) program (only t) n image (suc k) i (after_step [] u).channel) images
             (after_next (start_on Ideal) program (only t) n [] image h low k u Moved goes w.among);
-        others = λ a off.
-            sym (ap (λ (i : List ℕ). get_or i a 0) images)
-            ∙ kept.bytes a (λ i. off (only_writes t a
-            (next_inside (start_on Ideal) program (only t) n h k w.channel a (is_in (start_on Ideal) program (only t) n image k s.image w.channel w.among)
-            (nexts (start_on Ideal) program (only t) n h k w.among.within) i)))
-            ∙ w.others a off;
+        others = λ a off. sym (ap (λ (i : List ℕ). get_or i a 0) images) ∙ off_kept k s w a off;
         size = ap length (sym images) ∙ kept.size ∙ w.size;
       }
 
@@ -369,12 +358,7 @@ module _ (program : List ℕ) (t : Descriptor) (n : ℕ) (image : List ℕ) (h :
       ∙ ext_get_or 0 (step_of [] w.channel s.image s.flags).1.image (laid image t (size_of t)) (kept.size ∙ w.size ∙ sym (length_laid image t (size_of t)))
       (λ a l. elim (in_or_not (destinations t) a) [
         | inl i ↦ done.all.copied a (inr i)
-        | inr off ↦
-            kept.bytes a (λ i. off (only_writes t a
-            (next_inside (start_on Ideal) program (only t) n h n w.channel a (is_in (start_on Ideal) program (only t) n image n s.image w.channel w.among)
-            (nexts (start_on Ideal) program (only t) n h n (omega arith)) i)))
-            ∙ w.others a off
-            ∙ sym (get_or_after_moves_other image (moves t (size_of t)) a (λ i. off (moves_writes t (size_of t) a i)))
+        | inr off ↦ off_kept n s w a off ∙ sym (get_or_after_moves_other image (moves t (size_of t)) a (λ i. off (moves_writes t (size_of t) a i)))
       ])
 
   -- a run that stops before the limit stops at DMAEND

@@ -111,8 +111,7 @@ module _ (start : Registers) (program : List ℕ) (work : Work) (n : ℕ) (h : E
           flags = sym same.events;
           image = record {
             size = ap length same.first ∙ length_put x ws ∙ agree.size ∙ sym (ap length same.second ∙ length_put y ws);
-            bytes =
-                λ a i. on a (agree.bytes a i);
+            bytes = λ a i. on a (agree.bytes a i);
           };
         };
         kept = subst (λ (v : List ℕ). SameOrKept x y v (after_step marks (over s y)).image) (sym same.first)

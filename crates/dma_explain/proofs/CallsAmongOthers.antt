@@ -160,8 +160,7 @@ module _ (start : Registers) (program : List ℕ) (work : Work) (n : ℕ) (marks
         step = k;
         within = less;
         signals = next ∙ ap (λ (j : ChipInsn). Ok j) is;
-        after =
-            sym (ap (λ (j : ℕ). amounts_of (traced start program j)) later.taken ∙ same);
+        after = sym (ap (λ (j : ℕ). amounts_of (traced start program j)) later.taken ∙ same);
       }
 
   pub signalled : (s v : Machine) (most taken : ℕ) (last : Option ChanTurn) (e : ℕ) → Runs start program work n first s → TakesSteps marks s most taken last v

@@ -33,8 +33,7 @@ follows_new start program x h =
       reaches = record { trace = h.trace; goes = λ k l. absurd (omega (arith, l)); events_are = h.events; items_are = h.lists; bursts_are = h.bursts };
       pc = omega (arith, at);
       stored = omega (arith, ap (λ (a : Amounts). a.copied) none, ap (λ (a : Amounts). a.cleared) none);
-      counts =
-          (omega (arith, ap (λ (b : BurstCounts). b.loads) h.bursts), omega (arith, ap (λ (b : BurstCounts). b.stores) h.bursts));
+      counts = (omega (arith, ap (λ (b : BurstCounts). b.loads) h.bursts), omega (arith, ap (λ (b : BurstCounts). b.stores) h.bursts));
     }
 
 next_here : (start : Registers) (program : List ℕ) (n : ℕ) (x : Tracer) (r : Result ChipInsn FaultKind) → Follows start program n x
@@ -98,8 +97,7 @@ follows_on program x y bursts i e other a jump more count few start n w =
         goes = on.goes;
         events_are = a.events ∙ on.events_are;
         items_are = a.lists ∙ on.items_are;
-        bursts_are =
-            count ∙ on.bursts_are;
+        bursts_are = count ∙ on.bursts_are;
       };
       pc = omega (arith, fits, jump);
       stored = omega (arith, w.stored, more);
@@ -237,12 +235,10 @@ has_none Ld z other = either_has _ _ _ (one_has (Fails MfifoErr) (λ _ _. refl))
 has_none St z other =
     either_has _ _ _ (one_has (Fails StDataUnavailable) (λ _ _. refl))
     (either_has _ _ _ (one_has StoresPast (λ _ _. refl)) (either_has _ _ _ none_has (one_has StoresFixed (λ _ _. refl))))
-has_none (Mov Ccr w) z other =
-    either_has _ _ _ (either_has _ _ _ (one_has DropsBytes (λ _ _. refl)) none_has) (one_has (Fails OperandInvalid) (λ _ _. refl))
+has_none (Mov Ccr w) z other = either_has _ _ _ (either_has _ _ _ (one_has DropsBytes (λ _ _. refl)) none_has) (one_has (Fails OperandInvalid) (λ _ _. refl))
 has_none (Mov Dar v) z other = either_has _ _ _ (one_has DropsBytes (λ _ _. refl)) none_has
 has_none (LpEnd c back) z other = either_has _ _ _ (one_has (Fails InstrFetchErr) (λ _ _. refl)) none_has
-has_none StoreZeros z other =
-    either_has _ _ _ (one_has StoresPast (λ _ _. refl)) (either_has _ _ _ none_has (one_has StoresFixed (λ _ _. refl)))
+has_none StoreZeros z other = either_has _ _ _ (one_has StoresPast (λ _ _. refl)) (either_has _ _ _ none_has (one_has StoresFixed (λ _ _. refl)))
 has_none (AddHalfword Destination half negative) z other = either_has _ _ _ (one_has DropsBytes (λ _ _. refl)) none_has
 has_none (LoopAgain counter back) z other = either_has _ _ _ (one_has (Fails InstrFetchErr) (λ _ _. refl)) none_has
 has_none i z other = none_has
@@ -271,8 +267,7 @@ never_long (Mov Ccr w) z other =
     either_short _ _ _ (either_short _ _ _ (one_short DropsBytes (λ e. cc)) none_short) (one_short (Fails OperandInvalid) (λ e. cc))
 never_long (Mov Dar v) z other = either_short _ _ _ (one_short DropsBytes (λ e. cc)) none_short
 never_long (LpEnd c back) z other = either_short _ _ _ (one_short (Fails InstrFetchErr) (λ e. cc)) none_short
-never_long StoreZeros z other =
-    either_short _ _ _ (one_short StoresPast (λ e. cc)) (either_short _ _ _ none_short (one_short StoresFixed (λ e. cc)))
+never_long StoreZeros z other = either_short _ _ _ (one_short StoresPast (λ e. cc)) (either_short _ _ _ none_short (one_short StoresFixed (λ e. cc)))
 never_long (AddHalfword Destination half negative) z other = either_short _ _ _ (one_short DropsBytes (λ e. cc)) none_short
 never_long (LoopAgain counter back) z other = either_short _ _ _ (one_short (Fails InstrFetchErr) (λ e. cc)) none_short
 never_long i z other = none_short

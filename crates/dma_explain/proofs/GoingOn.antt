@@ -35,8 +35,7 @@ no_jump n pc back e some = grind (arith, nat_tests)
 
 -- whether an instruction drops bytes that are held
 abbrev pub dropped : ChipInsn → Trace → Bool
-dropped i x =
-    let r = x.registers in nat_lt 0 (held x) && drops r.bus (destination_of r) (destination_of (moved i r))
+dropped i x = let r = x.registers in nat_lt 0 (held x) && drops r.bus (destination_of r) (destination_of (moved i r))
 
 -- DMAMOV while the buffer is empty
 pub mov_empty : (i : ChipInsn) (x : Trace) → held x ≡ 0 → stop_of_mov i x ≡ None
@@ -90,14 +89,12 @@ can (Mov Dar v) x few ne e = (none_first (dropped (Mov Dar v) x) DropsBytes None
 can (Mov Ccr w) x few ne e =
     let taken = none_second (accepts x.registers.bus w) (Fails OperandInvalid) _ e in
     (taken.0, (none_first (dropped (Mov Ccr w) x) DropsBytes None taken.1).0)
-can (AddHalfword Destination half negative) x few ne e =
-    (none_first (dropped (AddHalfword Destination half negative) x) DropsBytes None e).0
+can (AddHalfword Destination half negative) x few ne e = (none_first (dropped (AddHalfword Destination half negative) x) DropsBytes None e).0
 can (LpEnd c back) x few ne e =
     no_jump (counter_of c x.registers) x.registers.pc back
     (none_first (nat_lt 0 (counter_of c x.registers) && nat_lt x.registers.pc back) (Fails InstrFetchErr) None e).0
 can End x few ne e = absurd (ne refl)
-can StoreZeros x few ne e =
-    let b = destination_of x.registers in (none_second b.increments StoresFixed None (none_first (passes b) StoresPast _ e).1).0
+can StoreZeros x few ne e = let b = destination_of x.registers in (none_second b.increments StoresFixed None (none_first (passes b) StoresPast _ e).1).0
 can (LoopAgain counter back) x few ne e = ltb-false x.registers.pc back (none_first (nat_lt x.registers.pc back) (Fails InstrFetchErr) None e).0
 can i x few ne e = tt
 

@@ -21,3 +21,4 @@ pub mod Turns
 pub mod Refusals
 pub mod RegionsHave
 pub mod Rows
+pub mod InOrder

@@ -34,8 +34,7 @@ chip_burst v w k a c =
 same_lanes : (a b m n : ℕ) → n ≤ m → a % 2 ^ m ≡ b % 2 ^ m → a % 2 ^ n ≡ b % 2 ^ n
 same_lanes a b m n le e =
     let all : m - n + n ≡ m = omega (arith, le) in
-    let low : (x : ℕ) → x % 2 ^ m % 2 ^ n ≡ x % 2 ^ n =
-    λ x. ap (λ (k : ℕ). x % 2 ^ k % 2 ^ n) (sym all) ∙ mod-mod-pow x (m - n) n in
+    let low : (x : ℕ) → x % 2 ^ m % 2 ^ n ≡ x % 2 ^ n = λ x. ap (λ (k : ℕ). x % 2 ^ k % 2 ^ n) (sym all) ∙ mod-mod-pow x (m - n) n in
     sym (low a) ∙ ap (λ (x : ℕ). x % 2 ^ n) e ∙ low b
 
 or_rest : (x y rest : Bool) → (x ≡ true → y ≡ true) → (not x || rest) ≡ false → (not y || rest) ≡ false
@@ -109,8 +108,7 @@ module _ (width other : BusWidth) where
       let new = destination_of (moved i r) in
       let less : drops r.bus old new ≡ false → drops (Chip other) old new ≡ false =
       λ e. drops_less width other old new le (subst (λ (b : Bus). drops b old new ≡ false) on e) in
-      let to : destination_of (moved i (registers_on (Chip other) r)) ≡ new =
-      ap destination_of same ∙ destination_there (moved i r) (bus_moved i r ∙ on) in
+      let to : destination_of (moved i (registers_on (Chip other) r)) ≡ new = ap destination_of same ∙ destination_there (moved i r) (bus_moved i r ∙ on) in
       let there : dropped i (trace_on (Chip other) x) ≡ (nat_lt 0 (held x) && drops (Chip other) old new) =
       ap (λ (b : Burst). nat_lt 0 (held x) && drops (Chip other) b (destination_of (moved i (registers_on (Chip other) r)))) (destination_there r on)
       ∙ ap (λ (b : Burst). nat_lt 0 (held x) && drops (Chip other) old b) to in
@@ -119,16 +117,13 @@ module _ (width other : BusWidth) where
 
   keeps_there : (i : ChipInsn) (x : Trace) → x.registers.bus ≡ Chip width → bus_code other ≤ bus_code width → stop_of_insn i x ≡ None → KeepsOn (Chip other) i x
   keeps_there (Mov Dar v) x on le g = mov_there (Mov Dar v) x on le refl g
-  keeps_there (Mov Ccr w) x on le g =
-      mov_there (Mov Ccr w) x on le refl (none_second (accepts x.registers.bus w) (Fails OperandInvalid) _ g).1
-  keeps_there (AddHalfword Destination half negative) x on le g =
-      mov_there (AddHalfword Destination half negative) x on le refl g
+  keeps_there (Mov Ccr w) x on le g = mov_there (Mov Ccr w) x on le refl (none_second (accepts x.registers.bus w) (Fails OperandInvalid) _ g).1
+  keeps_there (AddHalfword Destination half negative) x on le g = mov_there (AddHalfword Destination half negative) x on le refl g
   keeps_there i x on le g = tt
 
   goes_there : (r : Result ChipInsn FaultKind) (x : Trace) → x.registers.bus ≡ Chip width → bus_code other ≤ bus_code width → fits_bus (Chip other) r ≡ true
       → GoesOn r x → GoesOn r (trace_on (Chip other) x)
-  goes_there (Ok i) x on le f g =
-      (g.0, goes_on (Chip other) i x f (moves_there i x.registers on) (keeps_there i x on le g.1) g.1)
+  goes_there (Ok i) x on le f g = (g.0, goes_on (Chip other) i x f (moves_there i x.registers on) (keeps_there i x on le g.1) g.1)
   goes_there (Err kind) x on le f g = absurd (let bad = g.1 in cc)
 
 pub traced_on_widths : TracedOnWidths

@@ -61,12 +61,10 @@ module _ (marks : MarkList) (x : Trace) (buffer image : List ℕ) (flags : List 
   holds_after (AddHalfword Destination half negative) few c = λ e. keeps (AddHalfword Destination half negative) c
   holds_after (LpEnd k back) few c =
       cond_both (nat_lt 0 (counter_of k x.registers) && nat_lt x.registers.pc back) _ _ (Holds (LpEnd k back) x) (λ bad e. absurd (cc)) (λ good e. holds)
-  holds_after (LoopAgain k back) few c =
-      cond_both (nat_lt x.registers.pc back) _ _ (Holds (LoopAgain k back) x) (λ bad e. absurd (cc)) (λ good e. holds)
+  holds_after (LoopAgain k back) few c = cond_both (nat_lt x.registers.pc back) _ _ (Holds (LoopAgain k back) x) (λ bad e. absurd (cc)) (λ good e. holds)
   holds_after StoreZeros few c =
       cond_both (reaches Writing marks (length image) (touched (destination_of x.registers))) _ _ (Holds StoreZeros x) (λ all e. holds) (λ no e. absurd (cc))
-  holds_after (Wfe n v) few c =
-      cond_both (slice_index_or flags n false) _ _ (Holds (Wfe n v) x) (λ set e. holds) (λ clear e. absurd (cc))
+  holds_after (Wfe n v) few c = cond_both (slice_index_or flags n false) _ _ (Holds (Wfe n v) x) (λ set e. holds) (λ clear e. absurd (cc))
   holds_after End few c = absurd c
   holds_after i few c = λ e. holds
 
@@ -402,8 +400,7 @@ module _ (start : Registers) (program : List ℕ) (most : ℕ) (u : Unexplained)
               step = k;
               within = less;
               signals = sym (ahead_beside start program k m.channel held.beside) ∙ sent (ahead_of m.channel) e signal;
-              after =
-                  refl;
+              after = refl;
             },
           )
           | inr all ↦

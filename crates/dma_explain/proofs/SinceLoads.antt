@@ -134,7 +134,8 @@ module _ (start : Registers) (program : List ℕ) (work : Work) (n : ℕ) (first
     pub leads : (c : Call) → Runs start program work n first c.found → DoesCall c → Leads start program work n first c.last c.left
     leads c r does = call start program work n c.marks first h low c.found c.left c.most c.taken c.last r does.steps
 
-    pub has_copied : (c : Call) → Runs start program work n first c.found → DoesCall c → HasCopied start program work n (bytes_in first) (bytes_in c.left.image) c
+    pub has_copied : (c : Call) → Runs start program work n first c.found → DoesCall c
+        → HasCopied start program work n (bytes_in first) (bytes_in c.left.image) c
     has_copied c r does =
         let so = leads_so start program work n first h c.last c.left (leads c r does) in
         record {

@@ -18,8 +18,7 @@ abbrev pub amounts : ℕ → ℕ → Amounts
 amounts copied cleared = record { copied = copied; cleared = cleared }
 
 pub same_amounts : {m n i j : ℕ} → m ≡ n → i ≡ j → amounts m i ≡ amounts n j
-same_amounts {m} {n} {i} {j} copied cleared =
-    ap (λ (k : ℕ). amounts k i) copied ∙ ap (λ (k : ℕ). amounts n k) cleared
+same_amounts {m} {n} {i} {j} copied cleared = ap (λ (k : ℕ). amounts k i) copied ∙ ap (λ (k : ℕ). amounts n k) cleared
 
 abbrev pub lists : List Repeated → List Segment → List Segment → Items
 lists reads writes zeros = record { reads = reads; writes = writes; zeros = zeros }

@@ -243,8 +243,7 @@ module _ (work : Work) (first : List ℕ) (marks : MarkList) (whole : IsWork wor
     registers_are = refl;
     buffer_is = kept_held x.registers (moved i x.registers) buffer _ held none ∙ m.buffer_is;
     few = m.few;
-    same =
-        m.same;
+    same = m.same;
     zeros = m.zeros;
     rest = m.rest;
     fits = m.fits;

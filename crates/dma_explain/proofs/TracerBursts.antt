@@ -1,6 +1,6 @@
 -- The bursts of a run without memory, as its tracer keeps them.
 use Rattle.std.proofs.Common.{◌≡◌, ℕ, zero, suc, ◌+◌, ◌-◌, ◌*◌, ◌≤◌, ◌<◌, Bool, true, false, cond, List, ◌++◌, length, Some, None, Result, Ok, Err, refl, sym}
-use Rattle.std.proofs.Common.{ap, ◌∙◌, subst, arith, append-nil, length-append, inl, inr, OnOk}
+use Rattle.std.proofs.Common.{Global, Vec, ap, ◌∙◌, subst, arith, append-nil, length-append, inl, inr, OnOk}
 use Rattle.std.specs.{Prelude.is_err, Prelude.nat_lt, Prelude.replicate, List.flat_map, List.range_with_len}
 use Rattle.std.proofs.{lemmas.List.FromFn.length-range_with_len, lemmas.Bool.cases_Bool, lemmas.Bool.le-ltb, lemmas.Bool.ltb-false, lemmas.Nat.mul-le}
 use Rattle.dma_insn.specs.declared.chip.ChipInsn.TheVariants.{Ld, St, StoreZeros}
@@ -12,10 +12,10 @@ use Rattle.dma_explain.specs.declared.explain.Cause.TheVariants.{Fails, LoadsPas
 use Rattle.dma_explain.specs.Explains.{IsRead, IsRun, Trace, held, passes, unrolled}
 use Rattle.dma_explain.specs.Items.{join_read, join_run, read_of, run_of, with_item}
 use Rattle.dma_explain.specs.inner.Tracing.{Advances, AreItems, IsTracer, lists_of, trace_of}
-use Rattle.dma_explain.specs.{declared.explain.Amounts.Amounts, declared.explain.tracer.Tracer.Tracer}
+use Rattle.dma_explain.specs.{declared.explain.Amounts.Amounts, declared.explain.Repeated.Repeated, declared.explain.tracer.Tracer.Tracer}
 use Rattle.dma_chan.proofs.{BurstReach.touched_rounds, ControlWords.advance_up}
 use Rattle.dma_explain.proofs.{GoingOn.length_up, GoingOn.passed, Items.reads_with, Items.runs_with, Items.with_read, Items.with_run, Items.with_zeros}
-use Rattle.dma_explain.proofs.{LowestPlaces.reads, LowestPlaces.rounds_read, TraceParts.same_amounts, TraceParts.same_lists, TraceParts.same_parts}
+use Rattle.dma_explain.proofs.{LowestPlaces.reads, LowestPlaces.rounds_read, TraceParts.same_amounts, TraceParts.same_parts}
 
 -- a burst touches some address
 span_some : (b : Burst) → MovesSome b → 0 < span_of b
@@ -65,91 +65,79 @@ module _ (x : Tracer) (b : Burst) (h : IsTracer x) (some : MovesSome b) where
   abbrev z : Trace
   z = trace_of x
 
-  pub load_advances : (y : Tracer) → b ≡ source_of x.registers → y.registers ≡ moved Ld x.registers → y.held ≡ x.held + burst_len b → y.held ≤ 256
-      → passes b ≡ false → y.src.items ≡ with_item join_read x.src.items (read_of b) → y.dst ≡ x.dst → y.zeros ≡ x.zeros → y.done ≡ x.done → y.events ≡ x.events
-      → Advances Ld x y
-  load_advances y is registers more room low pushed dst zeros done events =
+  pub load_advances : (after : Registers) (n : ℕ) (src : Vec Repeated Global) → b ≡ source_of x.registers → after ≡ moved Ld x.registers
+      → n ≡ x.held + burst_len b → n ≤ 256 → passes b ≡ false → src.items ≡ with_item join_read x.src.items (read_of b)
+      → Advances Ld x (record x { registers = after; held = n; src = src })
+  load_advances after n src is registers more room low pushed =
       let all = reads_with x.src.items (read_of b) h.items.reads (read_is b some low) in
-      let src : (trace_of y).loads ≡ z.loads ++ touched b = ap (λ rs. places (unrolled rs)) pushed ∙ all.1
+      let read : places (unrolled src.items) ≡ z.loads ++ touched b = ap (λ rs. places (unrolled rs)) pushed ∙ all.1
       ∙ ap (λ (xs : List ℕ). z.loads ++ xs) (read_touched b) in
-      let long = length_touched b some in
-      let lists : lists_of y ≡ record (lists_of x) { reads = with_item join_read x.src.items (read_of b) } =
-      same_lists pushed (ap (λ v. v.items) dst) (ap (λ v. v.items) zeros) in
-      let grown : length z.loads + burst_len b ≡ length (trace_of y).loads = omega (arith, ap length src, length-append z.loads (touched b), long) in
-      let stores = ap (λ v. places v.items) dst in
-      let clears = ap (λ v. places v.items) zeros in
-      let to = ap length stores in
+      let lists = ap (λ (rs : List Repeated). record (lists_of x) { reads = rs }) pushed in
+      let grown : length z.loads + burst_len b ≡ length (places (unrolled src.items)) =
+      omega (arith, ap length read, length-append z.loads (touched b), length_touched b some) in
       record {
         tracer = record {
-          few = omega (arith, h.few, grown, to);
-          held = omega (arith, h.few, h.held, more, grown, to);
+          few = omega (arith, h.few, grown);
+          held = omega (arith, h.few, h.held, more, grown);
           room = room;
-          done = done ∙ h.done ∙ same_amounts (sym to) (ap length (sym clears));
+          done = h.done;
           items = subst AreItems (sym lists) (with_read (lists_of x) (read_of b) h.items (read_is b some low));
         };
         goes = rw (← is) (passed (nat_lt buffer_size (held z + burst_len b)) (Fails MfifoErr) _
             (le-ltb buffer_size (held z + burst_len b) (omega (arith, more, room, h.held))) (passed (passes b) LoadsPast None low refl));
-        trace = same_parts registers (src ∙ ap (λ (c : Burst). z.loads ++ touched c) is) stores clears;
-        events = ap (λ v. v.items) events ∙ sym (append-nil x.events.items);
+        trace = same_parts registers (read ∙ ap (λ (c : Burst). z.loads ++ touched c) is) refl refl;
+        events = sym (append-nil x.events.items);
         lists = lists ∙ ap (λ (c : Burst). record (lists_of x) { reads = with_item join_read x.src.items (read_of c) }) is;
       }
 
-  pub store_advances : (y : Tracer) → b ≡ destination_of x.registers → b.increments ≡ true → burst_len b ≤ x.held → passes b ≡ false
-      → y.registers ≡ moved St x.registers → y.held ≡ x.held - burst_len b → y.done ≡ record x.done { copied = x.done.copied + burst_len b }
-      → y.dst.items ≡ with_item join_run x.dst.items (run_of b) → y.src ≡ x.src → y.zeros ≡ x.zeros → y.events ≡ x.events → Advances St x y
-  store_advances y is up has low registers less more pushed src zeros events =
+  pub store_advances : (after : Registers) (n : ℕ) (done : Amounts) (dst : Vec Segment Global) → b ≡ destination_of x.registers → b.increments ≡ true
+      → burst_len b ≤ x.held → passes b ≡ false → after ≡ moved St x.registers → n ≡ x.held - burst_len b
+      → done ≡ record x.done { copied = x.done.copied + burst_len b } → dst.items ≡ with_item join_run x.dst.items (run_of b)
+      → Advances St x (record x { registers = after; held = n; done = done; dst = dst })
+  store_advances after n done dst is up has low registers less more pushed =
       let all = runs_with x.dst.items (run_of b) h.items.writes (run_is b some low) in
-      let dst : (trace_of y).stores ≡ z.stores ++ touched b = ap places pushed ∙ all.1
+      let put : places dst.items ≡ z.stores ++ touched b = ap places pushed ∙ all.1
       ∙ ap (λ (xs : List ℕ). z.stores ++ xs) (touched_span b (run_of b) up refl refl) in
-      let lists : lists_of y ≡ record (lists_of x) { writes = with_item join_run x.dst.items (run_of b) } =
-      same_lists (ap (λ v. v.items) src) pushed (ap (λ v. v.items) zeros) in
-      let grown : x.done.copied + burst_len b ≡ length (trace_of y).stores =
-      omega (arith, ap (λ (a : Amounts). a.copied) h.done, ap length dst, length-append z.stores (touched b), length_up b up) in
+      let lists = ap (λ (ws : List Segment). record (lists_of x) { writes = ws }) pushed in
       let copied = ap (λ (a : Amounts). a.copied) h.done in
-      let loads = ap (λ v. places (unrolled v.items)) src in
-      let clears = ap (λ v. places v.items) zeros in
-      let from = ap length loads in
+      let grown : x.done.copied + burst_len b ≡ length (places dst.items) =
+      omega (arith, copied, ap length put, length-append z.stores (touched b), length_up b up) in
       record {
         tracer = record {
-          few = omega (arith, h.few, h.held, has, grown, copied, from);
-          held = omega (arith, h.few, h.held, less, has, grown, copied, from);
+          few = omega (arith, h.few, h.held, has, grown, copied);
+          held = omega (arith, h.few, h.held, less, has, grown, copied);
           room = omega (arith, h.room, less);
-          done = more ∙ same_amounts grown (ap (λ (a : Amounts). a.cleared) h.done ∙ ap length (sym clears));
+          done = more ∙ same_amounts grown (ap (λ (a : Amounts). a.cleared) h.done);
           items = subst AreItems (sym lists) (with_run (lists_of x) (run_of b) h.items (run_is b some low));
         };
         goes = rw (← is) (passed (nat_lt (held z) (burst_len b)) (Fails StDataUnavailable) _ (le-ltb (held z) (burst_len b) (omega (arith, has, h.held)))
             (passed (passes b) StoresPast _ low (ap (λ (i : Bool). cond i None (Some StoresFixed)) up)));
-        trace = same_parts registers loads (dst ∙ ap (λ (c : Burst). z.stores ++ touched c) is) clears;
-        events = ap (λ v. v.items) events ∙ sym (append-nil x.events.items);
+        trace = same_parts registers refl (put ∙ ap (λ (c : Burst). z.stores ++ touched c) is) refl;
+        events = sym (append-nil x.events.items);
         lists = lists ∙ ap (λ (c : Burst). record (lists_of x) { writes = with_item join_run x.dst.items (run_of c) }) is;
       }
 
-  pub clear_advances : (y : Tracer) → b ≡ destination_of x.registers → b.increments ≡ true → passes b ≡ false → y.registers ≡ moved StoreZeros x.registers
-      → y.held ≡ x.held → y.done ≡ record x.done { cleared = x.done.cleared + burst_len b } → y.zeros.items ≡ with_item join_run x.zeros.items (run_of b)
-      → y.src ≡ x.src → y.dst ≡ x.dst → y.events ≡ x.events → Advances StoreZeros x y
-  clear_advances y is up low registers same more pushed src dst events =
+  pub clear_advances : (after : Registers) (done : Amounts) (zeros : Vec Segment Global) → b ≡ destination_of x.registers → b.increments ≡ true
+      → passes b ≡ false → after ≡ moved StoreZeros x.registers → done ≡ record x.done { cleared = x.done.cleared + burst_len b }
+      → zeros.items ≡ with_item join_run x.zeros.items (run_of b) → Advances StoreZeros x (record x { registers = after; done = done; zeros = zeros })
+  clear_advances after done zeros is up low registers more pushed =
       let all = runs_with x.zeros.items (run_of b) h.items.zeros (run_is b some low) in
-      let zeros : (trace_of y).zeros ≡ z.zeros ++ touched b = ap places pushed ∙ all.1
+      let put : places zeros.items ≡ z.zeros ++ touched b = ap places pushed ∙ all.1
       ∙ ap (λ (xs : List ℕ). z.zeros ++ xs) (touched_span b (run_of b) up refl refl) in
-      let lists : lists_of y ≡ record (lists_of x) { zeros = with_item join_run x.zeros.items (run_of b) } =
-      same_lists (ap (λ v. v.items) src) (ap (λ v. v.items) dst) pushed in
-      let grown : x.done.cleared + burst_len b ≡ length (trace_of y).zeros =
-      omega (arith, ap (λ (a : Amounts). a.cleared) h.done, ap length zeros, length-append z.zeros (touched b), length_up b up) in
-      let loads = ap (λ v. places (unrolled v.items)) src in
-      let stores = ap (λ v. places v.items) dst in
-      let from = ap length loads in
-      let to = ap length stores in
+      let lists = ap (λ (ws : List Segment). record (lists_of x) { zeros = ws }) pushed in
+      let grown : x.done.cleared + burst_len b ≡ length (places zeros.items) =
+      omega (arith, ap (λ (a : Amounts). a.cleared) h.done, ap length put, length-append z.zeros (touched b), length_up b up) in
       record {
         tracer = record {
-          few = omega (arith, h.few, from, to);
-          held = omega (arith, h.held, same, from, to);
-          room = omega (arith, h.room, same);
-          done = more ∙ same_amounts (ap (λ (a : Amounts). a.copied) h.done ∙ sym to) grown;
+          few = h.few;
+          held = h.held;
+          room = h.room;
+          done = more ∙ same_amounts (ap (λ (a : Amounts). a.copied) h.done) grown;
           items = subst AreItems (sym lists) (with_zeros (lists_of x) (run_of b) h.items (run_is b some low));
         };
         goes = rw (← is) (passed (passes b) StoresPast _ low (ap (λ (i : Bool). cond i None (Some StoresFixed)) up));
-        trace = same_parts registers loads stores (zeros ∙ ap (λ (c : Burst). z.zeros ++ touched c) is);
-        events = ap (λ v. v.items) events ∙ sym (append-nil x.events.items);
+        trace = same_parts registers refl refl (put ∙ ap (λ (c : Burst). z.zeros ++ touched c) is);
+        events = sym (append-nil x.events.items);
         lists = lists ∙ ap (λ (c : Burst). record (lists_of x) { zeros = with_item join_run x.zeros.items (run_of c) }) is;
       }
 

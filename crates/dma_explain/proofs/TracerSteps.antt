@@ -1,24 +1,23 @@
 -- The instructions of a run without memory, as its tracer keeps them, but for its bursts.
-use Rattle.std.proofs.Common.{◌≡◌, ◌≢◌, ℕ, Bool, true, false, cond, ◌&&◌, List, [], ◌∷◌, ◌++◌, length, Some, None, Result, Ok, Err, refl, sym, ap, ◌∙◌, subst}
-use Rattle.std.proofs.Common.{arith, append-nil, inl, inr, IfErr, OnOk}
+use Rattle.std.proofs.Common.{◌≡◌, ◌≢◌, ℕ, Bool, true, false, cond, ◌&&◌, List, [], ◌∷◌, ◌++◌, Some, None, Result, Ok, Err, refl, sym, ap, ◌∙◌}
+use Rattle.std.proofs.Common.{Global, Vec, append-nil, inl, inr, IfErr, OnOk}
 use Rattle.std.specs.Prelude.{nat_lt, not}
 use Rattle.std.proofs.lemmas.Bool.{cases_Bool, not-false, not-true}
 use Rattle.dma_insn.specs.declared.insn.Reg.TheVariants.{Sar, Dar, Ccr}
 use Rattle.dma_insn.specs.declared.chip.Address.TheVariants.{Source, Destination}
-use Rattle.dma_insn.specs.declared.chip.ChipInsn.TheVariants.{Mov, Ld, St, Lp, LpEnd, Sev, Wfe, StoreZeros, AddHalfword, LoopAgain}
+use Rattle.dma_insn.specs.declared.chip.ChipInsn.TheVariants.{Mov, Ld, St, Lp, Sev, Wfe, StoreZeros, AddHalfword}
 use Rattle.dma_insn.specs.{declared.insn.Counter.Counter, declared.insn.Reg.Reg, declared.chip.ChipInsn.ChipInsn, declared.chip.Address.Address}
-use Rattle.dma_mem.specs.Places.{places}
-use Rattle.dma_chan.specs.Exec.{State, act, destination_of, counter_of, moved, past, state}
+use Rattle.dma_chan.specs.Exec.{State, act, destination_of, moved, past, state}
 use Rattle.dma_chan.specs.{Bus.accepts, declared.exec.Registers.Registers, declared.turn.ChanTurn.ChanTurn, declared.turn.ChanTurn.TheVariants.Moved}
 use Rattle.dma_chan.specs.{declared.turn.ChanTurn.TheVariants.Fault, declared.turn.FaultKind.FaultKind, declared.turn.FaultKind.TheVariants.InstrFetchErr}
 use Rattle.dma_chan.specs.{declared.turn.FaultKind.TheVariants.OperandInvalid, Bursts.drops, inner.Acts.SetsKeeping, inner.Acts.SetsRegisters}
-use Rattle.dma_explain.specs.Explains.{Trace, after_insn, amounts_of, happening_of, held, stop_of_insn, stop_of_mov, unrolled}
-use Rattle.dma_explain.specs.inner.Tracing.{Advances, AreItems, IsTracer, Stops, lists_of, trace_of}
+use Rattle.dma_explain.specs.Explains.{Trace, after_insn, amounts_of, happening_of, held, stop_of_insn, stop_of_mov}
+use Rattle.dma_explain.specs.inner.Tracing.{Advances, IsTracer, Stops, lists_of, trace_of}
 use Rattle.dma_explain.specs.{declared.explain.Amounts.Amounts, declared.explain.Cause.Cause, declared.explain.Cause.TheVariants.DropsBytes}
-use Rattle.dma_explain.specs.{declared.explain.Cause.TheVariants.Fails, declared.explain.Happening.Happening, declared.explain.Sync.Sync}
+use Rattle.dma_explain.specs.{declared.explain.Cause.TheVariants.Fails, declared.explain.Happening.Happening, declared.explain.EventSync.EventSync}
 use Rattle.dma_explain.specs.{declared.explain.tracer.Tracer.Tracer, Items.Items, Items.with_burst}
 use Rattle.dma_chan.proofs.{CallWrites.act_leads, KeptBytes.drops_same, KeptBytes.kept_none}
-use Rattle.dma_explain.proofs.{GoingOn.passed, TraceParts.same_amounts, TraceParts.same_lists, TraceParts.same_parts}
+use Rattle.dma_explain.proofs.{GoingOn.passed}
 
 -- ---- instructions that change only registers
 
@@ -113,18 +112,37 @@ turn_not false x y = refl
 turn_of : (i : ChipInsn) (r after : Registers) (turn : ChanTurn) → SetsAlone i r turn after → (act [] i (state r [] [] [])).0 ≡ turn
 turn_of i r after turn sets = ap (λ (x : ChanTurn × State). x.0) sets
 
--- no store changes by a DMAADDH or DMAADNH of SAR
-add_stop : (a : Address) (half : ℕ) (negative : Bool) (z : Trace) → stop_of_insn (AddHalfword a half negative) z ≡ stop_of_mov (AddHalfword a half negative) z
-add_stop Source half negative z =
+-- a change of SAR drops no bytes
+sar_keeps : (z : Trace) → let b = destination_of z.registers in None ≡ cond (nat_lt 0 (held z) && drops z.registers.bus b b) (Some DropsBytes) None
+sar_keeps z =
     let b = destination_of z.registers in
-    let same : (nat_lt 0 (held z) && drops z.registers.bus b b) ≡ false = ap (λ (d : Bool). nat_lt 0 (held z) && d) (drops_same z.registers.bus b)
-    ∙ no_test (nat_lt 0 (held z)) in
-    sym (passed (nat_lt 0 (held z) && drops z.registers.bus b b) DropsBytes None same refl)
+    sym (passed (nat_lt 0 (held z) && drops z.registers.bus b b) DropsBytes None
+    (ap (λ (d : Bool). nat_lt 0 (held z) && d) (drops_same z.registers.bus b) ∙ no_test (nat_lt 0 (held z))) refl)
   where
     no_test : (b : Bool) → (b && false) ≡ false
     no_test true = refl
     no_test false = refl
+
+add_stop : (a : Address) (half : ℕ) (negative : Bool) (z : Trace) → stop_of_insn (AddHalfword a half negative) z ≡ stop_of_mov (AddHalfword a half negative) z
+add_stop Source half negative z = sar_keeps z
 add_stop Destination half negative z = refl
+
+-- whether n bytes in the buffer are dropped if the registers become these
+abbrev drops_in : Tracer → ℕ → Registers → Bool
+drops_in x n r = nat_lt 0 n && drops x.registers.bus (destination_of x.registers) (destination_of r)
+
+-- an instruction that stops if it drops bytes
+module _ (i : ChipInsn) (x : Tracer) (after : Registers) (q : IsQuiet i) (h : IsTracer x) (to : after ≡ moved i x.registers)
+    (stop : stop_of_insn i (trace_of x) ≡ stop_of_mov i (trace_of x)) where
+  tested : (b : Bool) → drops_in x x.held after ≡ b → drops_in x (held (trace_of x)) (moved i x.registers) ≡ b
+  tested b e = ap (λ (n : ℕ). drops_in x n (moved i x.registers)) (sym h.held) ∙ ap (drops_in x x.held) (sym to) ∙ e
+
+  keeping_advances : drops_in x x.held after ≡ false → Advances i x (record x { registers = after })
+  keeping_advances keeps =
+      quiet_advances i x after q h to (stop ∙ passed (drops_in x (held (trace_of x)) (moved i x.registers)) DropsBytes None (tested false keeps) refl)
+
+  dropping_stops : drops_in x x.held after ≡ true → stop_of_insn i (trace_of x) ≡ Some DropsBytes
+  dropping_stops drop = stop ∙ ap (λ (b : Bool). cond b (Some DropsBytes) None) (tested true drop)
 
 -- DMAMOV
 mov_moves : (reg : Reg) (v : ℕ) (r after : Registers) (turn : ChanTurn) → SetsAlone (Mov reg v) r turn after → NoFault turn → turn ≡ Moved
@@ -134,15 +152,7 @@ mov_moves Ccr v r after turn sets none = (moves_if (accepts r.bus v) OperandInva
 
 mov_accepted : (reg : Reg) (v : ℕ) (z : Trace) (after : Registers) (turn : ChanTurn) → SetsAlone (Mov reg v) z.registers turn after → NoFault turn
     → stop_of_insn (Mov reg v) z ≡ stop_of_mov (Mov reg v) z
-mov_accepted Sar v z after turn sets none =
-    let b = destination_of z.registers in
-    let same : (nat_lt 0 (held z) && drops z.registers.bus b b) ≡ false = ap (λ (d : Bool). nat_lt 0 (held z) && d) (drops_same z.registers.bus b)
-    ∙ no_test (nat_lt 0 (held z)) in
-    sym (passed (nat_lt 0 (held z) && drops z.registers.bus b b) DropsBytes None same refl)
-  where
-    no_test : (b : Bool) → (b && false) ≡ false
-    no_test true = refl
-    no_test false = refl
+mov_accepted Sar v z after turn sets none = sar_keeps z
 mov_accepted Dar v z after turn sets none = refl
 mov_accepted Ccr v z after turn sets none =
     ap (λ (b : Bool). cond b (stop_of_mov (Mov Ccr v) z) (Some (Fails OperandInvalid)))
@@ -166,21 +176,11 @@ module _ (reg : Reg) (v : ℕ) (x : Tracer) (after : Registers) (turn : ChanTurn
   to : NoFault turn → after ≡ moved (Mov reg v) x.registers
   to none = sets_to (Mov reg v) x.registers after turn alone (mov_moves reg v x.registers after turn alone none)
 
-  abbrev Dropped : ℕ → Registers → Bool
-  Dropped n r = nat_lt 0 n && drops x.registers.bus (destination_of x.registers) (destination_of r)
+  pub set_advances : NoFault turn → drops_in x x.held after ≡ false → Advances (Mov reg v) x (record x { registers = after })
+  set_advances none = keeping_advances (Mov reg v) x after tt h (to none) (mov_accepted reg v (trace_of x) after turn alone none)
 
-  tested : (b : Bool) → NoFault turn → Dropped x.held after ≡ b → Dropped (held (trace_of x)) (moved (Mov reg v) x.registers) ≡ b
-  tested b none e = ap (λ (n : ℕ). Dropped n (moved (Mov reg v) x.registers)) (sym h.held) ∙ ap (Dropped x.held) (sym (to none)) ∙ e
-
-  pub set_advances : NoFault turn → Dropped x.held after ≡ false → Advances (Mov reg v) x (record x { registers = after })
-  set_advances none keeps =
-      quiet_advances (Mov reg v) x after tt h (to none)
-      (mov_accepted reg v (trace_of x) after turn alone none
-      ∙ passed (Dropped (held (trace_of x)) (moved (Mov reg v) x.registers)) DropsBytes None (tested false none keeps) refl)
-
-  pub set_drops : NoFault turn → Dropped x.held after ≡ true → stop_of_insn (Mov reg v) (trace_of x) ≡ Some DropsBytes
-  set_drops none drop =
-      mov_accepted reg v (trace_of x) after turn alone none ∙ ap (λ (b : Bool). cond b (Some DropsBytes) None) (tested true none drop)
+  pub set_drops : NoFault turn → drops_in x x.held after ≡ true → stop_of_insn (Mov reg v) (trace_of x) ≡ Some DropsBytes
+  set_drops none = dropping_stops (Mov reg v) x after tt h (to none) (mov_accepted reg v (trace_of x) after turn alone none)
 
 -- DMAADDH and DMAADNH
 add_answer : (a : Address) (half : ℕ) (negative : Bool) (s : State) → (act [] (AddHalfword a half negative) s).0 ≡ Moved
@@ -204,18 +204,11 @@ module _ (a : Address) (half : ℕ) (negative : Bool) (x : Tracer) (after : Regi
   add_to : after ≡ moved adds x.registers
   add_to = sets_to adds x.registers after turn add_alone add_moves
 
-  abbrev AddDropped : ℕ → Registers → Bool
-  AddDropped n r = nat_lt 0 n && drops x.registers.bus (destination_of x.registers) (destination_of r)
+  pub add_advances : drops_in x x.held after ≡ false → Advances adds x (record x { registers = after })
+  add_advances = keeping_advances adds x after tt h add_to (add_stop a half negative (trace_of x))
 
-  add_tested : (b : Bool) → AddDropped x.held after ≡ b → AddDropped (held (trace_of x)) (moved adds x.registers) ≡ b
-  add_tested b e = ap (λ (n : ℕ). AddDropped n (moved adds x.registers)) (sym h.held) ∙ ap (AddDropped x.held) (sym add_to) ∙ e
-
-  pub add_advances : AddDropped x.held after ≡ false → Advances adds x (record x { registers = after })
-  add_advances keeps = quiet_advances adds x after tt h add_to
-      (add_stop a half negative (trace_of x) ∙ passed (AddDropped (held (trace_of x)) (moved adds x.registers)) DropsBytes None (add_tested false keeps) refl)
-
-  pub add_drops : AddDropped x.held after ≡ true → stop_of_insn adds (trace_of x) ≡ Some DropsBytes
-  add_drops drop = add_stop a half negative (trace_of x) ∙ ap (λ (b : Bool). cond b (Some DropsBytes) None) (add_tested true drop)
+  pub add_drops : drops_in x x.held after ≡ true → stop_of_insn adds (trace_of x) ≡ Some DropsBytes
+  add_drops = dropping_stops adds x after tt h add_to (add_stop a half negative (trace_of x))
 
 -- DMALP and DMALPEND
 module _ {X : Type 0} (done : Result X Cause) (x : Tracer) (after : Registers) (turn : ChanTurn) (h : IsTracer x) where
@@ -244,53 +237,30 @@ module _ {X : Type 0} (done : Result X Cause) (x : Tracer) (after : Registers) (
   lp_stops c n sets fault =
       refused (Lp c n) (λ cause f. absurd (let bad : Moved ≡ Fault f.0 = turn_of (Lp c n) x.registers after turn (sets [] [] [] []) ∙ f.1 in cc)) fault
 
-  module _ (counter : Counter) (back : ℕ) (sets : SetsRegisters (LoopAgain counter back) x.registers turn after) where
-    abbrev early : Bool
-    early = nat_lt x.registers.pc back
-
-    again_is : turn_if (not early) (Moved, record (state x.registers [] [] []) { registers = moved (LoopAgain counter back) x.registers })
+  -- an instruction that jumps, and fails if that leads before the program
+  module _ (i : ChipInsn) (before : Bool) (q : IsQuiet i) (stop : stop_of_insn i (trace_of x) ≡ cond before (Some (Fails InstrFetchErr)) None)
+      (answer : turn_if before (Fault InstrFetchErr, state x.registers [] [] [])
+      (Moved, record (state x.registers [] [] []) { registers = moved i x.registers }) ≡ (act [] i (state x.registers [] [] [])).0)
+      (sets : SetsRegisters i x.registers turn after) where
+    is : turn_if (not before) (Moved, record (state x.registers [] [] []) { registers = moved i x.registers })
         (Fault InstrFetchErr, state x.registers [] [] []) ≡ turn
-    again_is = turn_not early _ _ ∙ turn_of (LoopAgain counter back) x.registers after turn (sets [] [] [] [])
+    is = turn_not before _ _ ∙ answer ∙ turn_of i x.registers after turn (sets [] [] [] [])
 
-    again_moves : NoFault turn → (turn ≡ Moved) × (stop_of_insn (LoopAgain counter back) (trace_of x) ≡ None)
-    again_moves none =
-        let w = moves_if (not early) InstrFetchErr turn _ _ again_is none in
-        (w.1, passed early (Fails InstrFetchErr) None (not-true early w.0) refl)
-
-    again_fails : (cause : Cause) → FaultIs turn cause → stop_of_insn (LoopAgain counter back) (trace_of x) ≡ Some cause
-    again_fails cause f =
-        let w = fails_if (not early) InstrFetchErr turn _ _ again_is cause f in
-        ap (λ (b : Bool). cond b (Some (Fails InstrFetchErr)) None) (not-false early w.0) ∙ ap (λ (k : Cause). Some k) (sym w.1)
-
-    pub again_advances : OnOk done (NoFault turn) → OnOk done (Advances (LoopAgain counter back) x (record x { registers = after }))
-    again_advances none = answered (LoopAgain counter back) tt sets again_moves none
-
-    pub again_stops : IfErr done (λ cause. FaultIs turn cause) → IfErr done (λ cause. Stops (LoopAgain counter back) x cause)
-    again_stops fault = refused (LoopAgain counter back) again_fails fault
-
-  module _ (c : Counter) (back : ℕ) (sets : SetsRegisters (LpEnd c back) x.registers turn after) where
-    abbrev before : Bool
-    before = nat_lt 0 (counter_of c x.registers) && nat_lt x.registers.pc back
-
-    is : turn_if (not before) (Moved, record (state x.registers [] [] []) { registers = moved (LpEnd c back) x.registers })
-        (Fault InstrFetchErr, state x.registers [] [] []) ≡ turn
-    is = turn_not before _ _ ∙ turn_of (LpEnd c back) x.registers after turn (sets [] [] [] [])
-
-    loop_moves : NoFault turn → (turn ≡ Moved) × (stop_of_insn (LpEnd c back) (trace_of x) ≡ None)
-    loop_moves none =
+    jump_moves : NoFault turn → (turn ≡ Moved) × (stop_of_insn i (trace_of x) ≡ None)
+    jump_moves none =
         let w = moves_if (not before) InstrFetchErr turn _ _ is none in
-        (w.1, passed before (Fails InstrFetchErr) None (not-true before w.0) refl)
+        (w.1, stop ∙ passed before (Fails InstrFetchErr) None (not-true before w.0) refl)
 
-    loop_fails : (cause : Cause) → FaultIs turn cause → stop_of_insn (LpEnd c back) (trace_of x) ≡ Some cause
-    loop_fails cause f =
+    jump_fails : (cause : Cause) → FaultIs turn cause → stop_of_insn i (trace_of x) ≡ Some cause
+    jump_fails cause f =
         let w = fails_if (not before) InstrFetchErr turn _ _ is cause f in
-        ap (λ (b : Bool). cond b (Some (Fails InstrFetchErr)) None) (not-false before w.0) ∙ ap (λ (k : Cause). Some k) (sym w.1)
+        stop ∙ ap (λ (b : Bool). cond b (Some (Fails InstrFetchErr)) None) (not-false before w.0) ∙ ap (λ (k : Cause). Some k) (sym w.1)
 
-    pub loop_advances : OnOk done (NoFault turn) → OnOk done (Advances (LpEnd c back) x (record x { registers = after }))
-    loop_advances none = answered (LpEnd c back) tt sets loop_moves none
+    pub jump_advances : OnOk done (NoFault turn) → OnOk done (Advances i x (record x { registers = after }))
+    jump_advances none = answered i q sets jump_moves none
 
-    pub loop_stops : IfErr done (λ cause. FaultIs turn cause) → IfErr done (λ cause. Stops (LpEnd c back) x cause)
-    loop_stops fault = refused (LpEnd c back) loop_fails fault
+    pub jump_stops : IfErr done (λ cause. FaultIs turn cause) → IfErr done (λ cause. Stops i x cause)
+    jump_stops fault = refused i jump_fails fault
 
 -- ---- DMAWFE and DMASEV
 
@@ -300,37 +270,28 @@ record Syncs (i : ChipInsn) (z : Trace) : Type 0 where
   trace : record z { registers = past i z.registers } ≡ after_insn i z
   items : (x : Items) → x ≡ with_burst (Ok i) z.registers x
 
-abbrev pub Happens : ChipInsn → Sync → Type 0
+abbrev pub Happens : ChipInsn → EventSync → Type 0
 Happens i s = (done : Amounts) → happening_of (Ok i) done ≡ record { sync = s; done = done } ∷ []
 
-syncs : (i : ChipInsn) (s : Sync) (z : Trace) → Happens i s → Syncs i z
+syncs : (i : ChipInsn) (s : EventSync) (z : Trace) → Happens i s → Syncs i z
 syncs (Wfe e v) s z h = record { goes = refl; trace = refl; items = λ x. refl }
 syncs (Sev e) s z h = record { goes = refl; trace = refl; items = λ x. refl }
 syncs i s z h =
     let none : Amounts = record { copied = 0; cleared = 0 } in
     absurd (let bad : [] ≡ record { sync = s; done = none } ∷ [] = h none in cc)
 
-pub happen_advances : (i : ChipInsn) (s : Sync) (x y : Tracer) → IsTracer x → Happens i s → y.registers ≡ past i x.registers → y.held ≡ x.held → y.done ≡ x.done
-    → y.src ≡ x.src → y.dst ≡ x.dst → y.zeros ≡ x.zeros → y.events.items ≡ x.events.items ++ record { sync = s; done = x.done } ∷ [] → Advances i x y
-happen_advances i s x y h is registers held_same done src dst zeros events =
+pub happen_advances : (i : ChipInsn) (s : EventSync) (x : Tracer) (after : Registers) (events : Vec Happening Global) → IsTracer x → Happens i s
+    → after ≡ past i x.registers → events.items ≡ x.events.items ++ record { sync = s; done = x.done } ∷ []
+    → Advances i x (record x { registers = after; events = events })
+happen_advances i s x after events h is registers pushed =
     let w = syncs i s (trace_of x) is in
-    let loads = ap (λ v. places (unrolled v.items)) src in
-    let stores = ap (λ v. places v.items) dst in
-    let clears = ap (λ v. places v.items) zeros in
-    let lists : lists_of y ≡ lists_of x = same_lists (ap (λ v. v.items) src) (ap (λ v. v.items) dst) (ap (λ v. v.items) zeros) in
     record {
-      tracer = record {
-        few = omega (arith, h.few, ap length loads, ap length stores);
-        held = omega (arith, held_same, h.held, ap length loads, ap length stores);
-        room = omega (arith, held_same, h.room);
-        done = done ∙ h.done ∙ same_amounts (ap length (sym stores)) (ap length (sym clears));
-        items = subst AreItems (sym lists) h.items;
-      };
+      tracer = record { few = h.few; held = h.held; room = h.room; done = h.done; items = h.items };
       goes = w.goes;
-      trace = same_parts registers loads stores clears ∙ w.trace;
+      trace = ap (λ (r : Registers). record (trace_of x) { registers = r }) registers ∙ w.trace;
       events =
-          events
+          pushed
           ∙ ap (λ (done : Amounts). x.events.items ++ record { sync = s; done = done } ∷ []) h.done
           ∙ ap (λ (es : List Happening). x.events.items ++ es) (sym (is (amounts_of (trace_of x))));
-      lists = lists ∙ w.items (lists_of x);
+      lists = w.items (lists_of x);
     }

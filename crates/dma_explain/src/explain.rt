@@ -32,7 +32,7 @@ pub struct Repeated {
 
 /// What an instruction does with an event.
 #[derive(Clone, Copy)]
-pub enum Sync {
+pub enum EventSync {
     /// DMAWFE waits for the event.
     Waits(u8),
     /// DMASEV signals the event.
@@ -49,7 +49,7 @@ pub struct Amounts {
 /// A DMAWFE or DMASEV that a program executes, and what it has done before.
 #[derive(Clone, Copy)]
 pub struct Happening {
-    pub sync: Sync,
+    pub sync: EventSync,
     pub done: Amounts,
 }
 

@@ -23,8 +23,7 @@ none_made : (v w : View) (answer : Answer) → AreReplies answer [] → w ≡ v 
 none_made v w answer fits same = ([], fits, same)
 
 one_made : (v w : View) (call : Call) (answer : Answer) → Replies v call answer w → Made v (call ∷ []) answer w
-one_made v w call answer (reply, is, answers) =
-    (reply ∷ [], subst (λ (a : Answer). AreReplies a (reply ∷ [])) (sym is) refl, (w, answers, refl))
+one_made v w call answer (reply, is, answers) = (reply ∷ [], subst (λ (a : Answer). AreReplies a (reply ∷ [])) (sym is) refl, (w, answers, refl))
 
 -- ---- steps
 
@@ -62,8 +61,7 @@ refused_made : (v w : View) (ch : ℕ) (a : Advanced) (fault : EngineFault) (fir
 refused_made v w ch a fault true before is none =
     let zero = eqb-true (steps_before a) 0 none in
     one_made v w (Step ch) (replied (Refused fault)) (Refused fault, refl, subst (λ (k : ℕ). StepAnswers (after_steps v ch k) ch (Err fault) w) zero is)
-refused_made v w ch a fault false before is some =
-    before_made v w ch a before (refused_stays (after_steps v ch (steps_before a)) w ch fault is)
+refused_made v w ch a fault false before is some = before_made v w ch a before (refused_stays (after_steps v ch (steps_before a)) w ch fault is)
 
 -- the steps of an advance, by the result of the last
 advance_made : (v w : View) (ch most : ℕ) (a : Advanced) (last : Option (Result Turn EngineFault))

@@ -39,8 +39,7 @@ module _ (P Q : RattleType) (F : Q.Denot → P.Denot) (G : P.Denot → Q.Denot) 
       lifetimes = 1;
       outlives = [];
       params = mut_ref_to (0 ∷ []) tt (plain (λ _. P)) ∷ [];
-      result =
-          mut_ref_to (0 ∷ []) tt (plain (λ _. Q));
+      result = mut_ref_to (0 ∷ []) tt (plain (λ _. Q));
     };
     kept = (no, tt);
   }
@@ -67,8 +66,7 @@ module _ (P Q : RattleType) (F : Q.Denot → P.Denot) (G : P.Denot → Q.Denot) 
     lending κs a = record {
       ghost = Unit {0};
       requires = λ _. emp 𝓤;
-      ensures =
-          λ _ r _. sep 𝓤 (sem 𝓛 (follows P Q a.0.ghost_name r.ghost_name F)) (fact 𝓤 (V r.now a.0.now));
+      ensures = λ _ r _. sep 𝓤 (sem 𝓛 (follows P Q a.0.ghost_name r.ghost_name F)) (fact 𝓤 (V r.now a.0.now));
     }
 
     returned : (b o : ℕ) (w : Q.Denot) → ent 𝓤 (sep 𝓤 (sem 𝓛 ((mem Q).own_at w b o)) (sem 𝓛 ftrue)) (sem 𝓛 ((mem P).own_at (F w) b o))

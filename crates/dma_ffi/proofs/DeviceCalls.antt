@@ -201,8 +201,7 @@ own d call (ask_rows n most before report) new (inl x) =
     own_none d call (ask_rows n most before report) new (ap (if_rows report) x.0) x.2 x.3
     (λ ok. absurd (let is = x.0 in cc))
 own d call (ask_rows n most before report) None (inr x) = absurd x.2
-own d call (ask_rows n most before report) (Some e) (inr x) =
-    own_rows d e call n most before report x.2.turns x.0 x.2.takes x.2.reported x.2.some
+own d call (ask_rows n most before report) (Some e) (inr x) = own_rows d e call n most before report x.2.turns x.0 x.2.takes x.2.reported x.2.some
 own d call ask_reset new is =
     let e = reset_device d.config in
     subst (Own d call ask_reset) (sym is.0.1)

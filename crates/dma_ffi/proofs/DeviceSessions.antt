@@ -76,8 +76,7 @@ module _ (call : ℕ → DeviceCall) (found : ℕ → Option DeviceValue) (n : �
       let last = g.lent (accesses_for (call n).request (call n).code) in
       let to = with_own.lent (first_access call (suc n)) in
       let same : to ≡ last = beyond at h.lent g.lent (accesses_for (call n).request (call n).code) (first_access call (suc n)) refl in
-      let next : AreAlike (call (suc n)).lent (call n).left =
-      subst (λ (i : ℕ). AreAlike (call i).lent (call n).left) (add-one n) (stay n (omega arith)) in
+      let next : AreAlike (call (suc n)).lent (call n).left = subst (λ (i : ℕ). AreAlike (call i).lent (call n).left) (add-one n) (stay n (omega arith)) in
       alike_then to last (call (suc n)).lent (alike last to same)
       (alike_then last (call n).left (call (suc n)).lent own.leaves (alike_back (call (suc n)).lent (call n).left next))
 
@@ -116,5 +115,4 @@ history_so_far call found (suc n) d begun are =
     (joined (first_access call n) h g, one_more call found n h g so_far made)
 
 pub device_sessions_are_histories : DeviceSessionsAreHistories
-device_sessions_are_histories call found count d begun are =
-    let (h, so_far) = history_so_far call found count d begun are in (h, so_far.is)
+device_sessions_are_histories call found count d begun are = let (h, so_far) = history_so_far call found count d begun are in (h, so_far.is)

@@ -35,8 +35,7 @@ then e u call later (Some e') can returned rest =
     (record { answers = one.1; code = one.2; written = one.3; replies = one.4.1; made = one.4.2 }) rest
 
 pub exchanges_are_the_engines : ExchangesAreTheEngines
-exchanges_are_the_engines e [] left is =
-    subst (λ (x : Option EngineState). Left e [] x) (sym is) ([], refl, refl, none_made_law)
+exchanges_are_the_engines e [] left is = subst (λ (x : Option EngineState). Left e [] x) (sym is) ([], refl, refl, none_made_law)
 exchanges_are_the_engines e (call ∷ later) left (next, can, returned, rest) =
     let by : (found : Option EngineState) → Returns (Some e) call.request call.code call.written found → AreExchanges found later left
     → Left e (call ∷ later) left =

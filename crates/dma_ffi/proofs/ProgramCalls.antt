@@ -12,7 +12,7 @@ use Rattle.dma_device.specs.Explaining.{FailsFor, FindsFor, channel_of}
 use Rattle.dma_device.specs.declared.device.explain.ExplainFault.TheVariants.{NoChannel, NoProgram, Unexplained}
 use Rattle.dma_device.specs.{Device.DeviceValue, declared.device.explain.ExplainFault.ExplainFault}
 use Rattle.dma_ffi.specs.Explaining.{ExplainsChannel, ExplainsFrom, ExplainsProgram}
-use Rattle.dma_ffi.specs.{Calls.ReadsOpen, Programs.PlansTransfer, inner.Found.Answers, inner.Found.AnswersDevice, inner.Plans.PlansMade}
+use Rattle.dma_ffi.specs.{Calls.ReadsOpen, Programs.PlansTransfer, inner.Found.AnswersProgram, inner.Found.AnswersDevice, inner.Plans.PlansMade}
 use Rattle.dma_mem.specs.declared.transfer.TransferFault.TheVariants as transfers
 use Rattle.dma_explain.specs.declared.explain.Unexplained.{Unexplained as Refusal}
 
@@ -33,7 +33,7 @@ module _ {Out : Type 0} (Writes : Explained → ℤ → Out → Out → Type 0) 
     (code : ℤ) (before after : Out) where
   -- of a program that isn't too long
   from_start : (found : Result Explained Refusal) → IfOk found (λ x. Finds start program most x) → IfErr found (λ u. u.cause ≢ TooLong)
-      → IfErr found (λ u. u.cause ≢ NoMemory → Refuses start program most u) → Answers Writes causes found code before after
+      → IfErr found (λ u. u.cause ≢ NoMemory → Refuses start program most u) → AnswersProgram Writes causes found code before after
       → ExplainsFrom Writes causes start program most code before after
   from_start (Ok x) ok short err h = inl (x, ok, h)
   from_start (Err u) ok short err (inl h) = absurd (short h.0)
@@ -46,13 +46,13 @@ module _ {Out : Type 0} (Writes : Explained → ℤ → Out → Out → Type 0) 
 
   here : (found : Result Explained Refusal) → IfOk found (λ x. Finds start program most x)
       → IfErr found (λ u. u.cause ≢ NoMemory → u.cause ≢ TooLong → Refuses start program most u)
-      → (IsErrAnd found (λ u. u.cause ≡ TooLong) ↔ most_program_bytes < length program) → Answers Writes causes found code before after
+      → (IsErrAnd found (λ u. u.cause ≡ TooLong) ↔ most_program_bytes < length program) → AnswersProgram Writes causes found code before after
       → ExplainsProgram Writes causes program (Some start) most code before after
   here found h1 h2 h3 h4 = grind (arith, fits, from_start)
 
   pub explains_program : (given : Option Registers) (found : Result Explained Refusal) → Some start ≡ given → IfOk found (λ x. Finds start program most x)
       → IfErr found (λ u. u.cause ≢ NoMemory → u.cause ≢ TooLong → Refuses start program most u)
-      → (IsErrAnd found (λ u. u.cause ≡ TooLong) ↔ most_program_bytes < length program) → Answers Writes causes found code before after
+      → (IsErrAnd found (λ u. u.cause ≡ TooLong) ↔ most_program_bytes < length program) → AnswersProgram Writes causes found code before after
       → ExplainsProgram Writes causes program given most code before after
   explains_program given found same ok err long h = grind (arith, here)
 

@@ -13,5 +13,4 @@ use Rattle.dma_ffi.specs.inner.Owned.{heap_handle, owned}
 pub owned_keyless : (R : RattleType) → IsSend R → (p : Ptr) (value : Option R.Denot) → Keyless (owned R p value)
 owned_keyless R sends p None = tt
 owned_keyless R sends null_ptr (Some x) = (tt, frees.frees heap_handle (raw (lone R.mir)) null_ptr)
-owned_keyless R sends (block_ptr b o) (Some x) =
-    (part_keyless R sends full_share x b o, frees.frees heap_handle (raw (lone R.mir)) (block_ptr b o))
+owned_keyless R sends (block_ptr b o) (Some x) = (part_keyless R sends full_share x b o, frees.frees heap_handle (raw (lone R.mir)) (block_ptr b o))

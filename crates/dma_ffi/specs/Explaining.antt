@@ -6,8 +6,9 @@ use Rattle.dma_insn.specs.AssemblyText.{most_program_bytes}
 use Rattle.dma_explain.specs.declared.explain.Cause.TheVariants.{TooLong, Fails, LoadsPast, StoresPast, StoresFixed, DropsBytes, BytesLeft, StoresTwice}
 use Rattle.dma_explain.specs.declared.explain.Cause.TheVariants.{StoresSource, NoEnd, NoMemory}
 use Rattle.dma_explain.specs.{Explains.Finds, Explains.Refuses, declared.explain.Cause.Cause, declared.explain.Explained.Explained}
-use Rattle.dma_explain.specs.{declared.explain.Happening.Happening, declared.explain.Repeated.Repeated, declared.explain.Sync.Sync}
-use Rattle.dma_explain.specs.{declared.explain.Sync.TheVariants.Waits, declared.explain.Sync.TheVariants.Signals, declared.explain.Unexplained.Unexplained}
+use Rattle.dma_explain.specs.{declared.explain.Happening.Happening, declared.explain.Repeated.Repeated, declared.explain.EventSync.EventSync}
+use Rattle.dma_explain.specs.declared.explain.EventSync.TheVariants.{Waits, Signals}
+use Rattle.dma_explain.specs.{declared.explain.Unexplained.Unexplained}
 use Rattle.dma_chan.specs.declared.bus.Bus.TheVariants.{Chip, Ideal}
 use Rattle.dma_chan.specs.{declared.bus.Bus.Bus, declared.bus.BusWidth.BusWidth, declared.exec.Registers.Registers, Bus.accepts, Exec.start_on}
 use Rattle.dma_device.specs.{Device.DeviceValue, Explaining.IsLoadedAnd, Explaining.program_of}
@@ -58,7 +59,7 @@ abbrev pub stores_zeros : ℕ
 stores_zeros = 16
 
 -- what an instruction does with an event: 0 for a wait, 1 for a signal, and the event
-abbrev pub sync_numbers : Sync → ℕ × ℕ
+abbrev pub sync_numbers : EventSync → ℕ × ℕ
 sync_numbers (Waits event) = (0, event)
 sync_numbers (Signals event) = (1, event)
 
@@ -123,6 +124,11 @@ pub record Outputs : Type 0 where
   pub dst : List Segment
   pub happenings : List DmaHappening
   pub explanation : Explanation
+
+-- all of it
+abbrev pub outputs : List Repeated → List Segment → List DmaHappening → Explanation → Outputs
+outputs src dst happenings explanation =
+    record { src = src; dst = dst; happenings = happenings; explanation = explanation }
 
 -- the lists of what was found
 abbrev pub WritesLists : Explained → ℤ → List Repeated → List Repeated → List Segment → List Segment
@@ -191,6 +197,11 @@ pub record WorkOutputs : Type 0 where
   pub zeros : List Segment
   pub moments : List Moment
   pub work : WorkFound
+
+-- all of it
+abbrev pub work_outputs : List Repeated → List Segment → List Segment → List Moment → WorkFound → WorkOutputs
+work_outputs src dst zeros moments work =
+    record { src = src; dst = dst; zeros = zeros; moments = moments; work = work }
 
 -- the lists of what was found
 abbrev pub WritesWorkLists : Explained → ℤ → List Repeated → List Repeated → List Segment → List Segment

@@ -15,21 +15,21 @@ use Rattle.dma_insn.specs.declared.disassembler.DisFault.TheVariants as programs
 -- ---- bytes written to a buffer
 
 -- whether a buffer has room for these bytes
-abbrev pub fits : List ℕ → List ℕ → Bool
-fits bytes buffer = nat_le (length bytes) (length buffer)
+abbrev pub has_room : List ℕ → List ℕ → Bool
+has_room bytes buffer = nat_le (length bytes) (length buffer)
 
 -- the buffer with these bytes at its front, if it has room; bytes behind them are unchanged, and so is a buffer
 -- without room
 abbrev pub laid_into : List ℕ → List ℕ → List ℕ
-laid_into bytes buffer = if fits bytes buffer then bytes ++ drop (length bytes) buffer else buffer
+laid_into bytes buffer = if has_room bytes buffer then bytes ++ drop (length bytes) buffer else buffer
 
 -- the code of a call that writes these bytes to a buffer: `buffer_too_small` if it has no room, else `ok_code`
 abbrev pub room_code : List ℕ → List ℕ → ℤ
-room_code bytes buffer = if fits bytes buffer then ok_code else buffer_too_small
+room_code bytes buffer = if has_room bytes buffer then ok_code else buffer_too_small
 
 -- the number if the buffer has room for the bytes, else the former value
 abbrev pub where_fits : List ℕ → List ℕ → ℕ → ℕ → ℕ
-where_fits bytes buffer number before = if fits bytes buffer then number else before
+where_fits bytes buffer number before = if has_room bytes buffer then number else before
 
 -- the version's text, ended by a zero byte
 abbrev pub version_text : List ℕ

@@ -3,8 +3,8 @@
 
 ghost use Rattle.std.specs.Prelude.{◌≡◌, ◌≤◌, ◌++◌, length, drop, map};
 ghost use Rattle.dma_ffi.specs.Calls.{ReadsOpen};
-ghost use Rattle.dma_ffi.specs.Explaining.{ExplainsChannel, ExplainsProgram, WritesCopy, WritesLists, any_bus, cause_number, explanation_of, happening_of, sync_numbers, unexplained_with, with_cause, zeros_on};
-ghost use Rattle.dma_ffi.specs.inner.Found.{Answers, AnswersDevice};
+ghost use Rattle.dma_ffi.specs.Explaining.{ExplainsChannel, ExplainsProgram, WritesCopy, WritesLists, any_bus, cause_number, explanation_of, happening_of, outputs, sync_numbers, unexplained_with, with_cause, zeros_on};
+ghost use Rattle.dma_ffi.specs.inner.Found.{AnswersProgram, AnswersDevice};
 
 use crate::codes::{
     BAD_CONFIG, BUFFER_TOO_SMALL, NO_CHANNEL, NO_MEMORY, NO_PROGRAM, NOT_OPEN, OK,
@@ -14,7 +14,9 @@ use crate::device_config::any_bus;
 use crate::kept_device::KeptDevice;
 use dma_chan::exec::Registers;
 use dma_device::device::explain::ExplainFault;
-use dma_explain::explain::{Cause, Explained, Happening, Repeated, Sync, Unexplained, explain};
+use dma_explain::explain::{
+    Cause, EventSync, Explained, Happening, Repeated, Unexplained, explain,
+};
 use dma_mem::segment::Segment;
 use std::alloc::Global;
 
@@ -74,12 +76,12 @@ pub(crate) fn number_of_cause(cause: Cause) -> u32
 }
 
 // Returns what an instruction does with an event, 0 for a wait and 1 for a signal, and the event.
-pub(crate) fn sync_numbers(sync: Sync) -> (u32, u32)
+pub(crate) fn sync_numbers(sync: EventSync) -> (u32, u32)
     ensures { result ≡ sync_numbers sync }
 {
     let (kind, event) = match sync {
-        Sync::Waits(event) => (0, event),
-        Sync::Signals(event) => (1, event),
+        EventSync::Waits(event) => (0, event),
+        EventSync::Signals(event) => (1, event),
     };
     (kind, u32::from(event))
 }
@@ -177,19 +179,9 @@ fn answer(
     happenings: &mut [DmaHappening],
     explanation: &mut Explanation,
 ) -> i32
-    ensures { Answers WritesCopy with_cause found result
-        (record {
-          src = src.old;
-          dst = dst.old;
-          happenings = happenings.old;
-          explanation = explanation.old;
-        })
-        (record {
-          src = src.new;
-          dst = dst.new;
-          happenings = happenings.new;
-          explanation = explanation.new;
-        }) }
+    ensures { AnswersProgram WritesCopy with_cause found result
+        (outputs src.old dst.old happenings.old explanation.old)
+        (outputs src.new dst.new happenings.new explanation.new) }
 {
     match found {
         Ok(found) => {
@@ -220,18 +212,8 @@ fn answer_device(
     explanation: &mut Explanation,
 ) -> i32
     ensures { AnswersDevice WritesCopy with_cause found result
-        (record {
-          src = src.old;
-          dst = dst.old;
-          happenings = happenings.old;
-          explanation = explanation.old;
-        })
-        (record {
-          src = src.new;
-          dst = dst.new;
-          happenings = happenings.new;
-          explanation = explanation.new;
-        }) }
+        (outputs src.old dst.old happenings.old explanation.old)
+        (outputs src.new dst.new happenings.new explanation.new) }
 {
     match found {
         Ok(found) => answer(Ok(found), src, dst, happenings, explanation),
@@ -263,18 +245,8 @@ pub extern "C" fn dma330_explain(
 ) -> i32
     ensures { ExplainsProgram WritesCopy with_cause program.now
         (zeros_on (any_bus bus)) most result
-        (record {
-          src = src.old;
-          dst = dst.old;
-          happenings = happenings.old;
-          explanation = explanation.old;
-        })
-        (record {
-          src = src.new;
-          dst = dst.new;
-          happenings = happenings.new;
-          explanation = explanation.new;
-        }) }
+        (outputs src.old dst.old happenings.old explanation.old)
+        (outputs src.new dst.new happenings.new explanation.new) }
 {
     let Some(bus) = any_bus(bus) else {
         return BAD_CONFIG;
@@ -298,18 +270,8 @@ pub extern "C" fn dma330_device_explain(
     explanation: &mut Explanation,
 ) -> i32
     ensures { ReadsOpen (ExplainsChannel WritesCopy with_cause channel most) kept.old.device.value result
-        (record {
-          src = src.old;
-          dst = dst.old;
-          happenings = happenings.old;
-          explanation = explanation.old;
-        })
-        (record {
-          src = src.new;
-          dst = dst.new;
-          happenings = happenings.new;
-          explanation = explanation.new;
-        })
+        (outputs src.old dst.old happenings.old explanation.old)
+        (outputs src.new dst.new happenings.new explanation.new)
         kept.new.device.value }
 {
     let Some(device) = kept.get_mut() else {

@@ -2,8 +2,8 @@
 
 ghost use Rattle.std.specs.Prelude.{◌≡◌, ◌≤◌, ◌++◌, length, drop, map};
 ghost use Rattle.dma_ffi.specs.Calls.{ReadsOpen};
-ghost use Rattle.dma_ffi.specs.Explaining.{ExplainsChannel, ExplainsProgram, WritesWork, WritesWorkLists, any_bus, given_on, moment_of, unexplained_work_of, work_found_of, with_work_cause};
-ghost use Rattle.dma_ffi.specs.inner.Found.{Answers, AnswersDevice};
+ghost use Rattle.dma_ffi.specs.Explaining.{ExplainsChannel, ExplainsProgram, WritesWork, WritesWorkLists, any_bus, given_on, moment_of, unexplained_work_of, with_work_cause, work_found_of, work_outputs};
+ghost use Rattle.dma_ffi.specs.inner.Found.{AnswersProgram, AnswersDevice};
 
 use crate::channel_calls::ChannelRegisters;
 use crate::codes::{
@@ -182,21 +182,9 @@ fn answer_work(
     moments: &mut [Moment],
     work: &mut WorkFound,
 ) -> i32
-    ensures { Answers WritesWork with_work_cause found result
-        (record {
-          src = src.old;
-          dst = dst.old;
-          zeros = zeros.old;
-          moments = moments.old;
-          work = work.old;
-        })
-        (record {
-          src = src.new;
-          dst = dst.new;
-          zeros = zeros.new;
-          moments = moments.new;
-          work = work.new;
-        }) }
+    ensures { AnswersProgram WritesWork with_work_cause found result
+        (work_outputs src.old dst.old zeros.old moments.old work.old)
+        (work_outputs src.new dst.new zeros.new moments.new work.new) }
 {
     match found {
         Ok(found) => {
@@ -224,20 +212,8 @@ fn answer_work_device(
     work: &mut WorkFound,
 ) -> i32
     ensures { AnswersDevice WritesWork with_work_cause found result
-        (record {
-          src = src.old;
-          dst = dst.old;
-          zeros = zeros.old;
-          moments = moments.old;
-          work = work.old;
-        })
-        (record {
-          src = src.new;
-          dst = dst.new;
-          zeros = zeros.new;
-          moments = moments.new;
-          work = work.new;
-        }) }
+        (work_outputs src.old dst.old zeros.old moments.old work.old)
+        (work_outputs src.new dst.new zeros.new moments.new work.new) }
 {
     match found {
         Ok(found) => answer_work(Ok(found), src, dst, zeros, moments, work),
@@ -273,20 +249,8 @@ pub extern "C" fn dma330_explain_work(
 ) -> i32
     ensures { ExplainsProgram WritesWork with_work_cause program.now
         (given_on start.now (any_bus bus)) most result
-        (record {
-          src = src.old;
-          dst = dst.old;
-          zeros = zeros.old;
-          moments = moments.old;
-          work = work.old;
-        })
-        (record {
-          src = src.new;
-          dst = dst.new;
-          zeros = zeros.new;
-          moments = moments.new;
-          work = work.new;
-        }) }
+        (work_outputs src.old dst.old zeros.old moments.old work.old)
+        (work_outputs src.new dst.new zeros.new moments.new work.new) }
 {
     let Some(start) = given_on(start, bus) else {
         return BAD_CONFIG;
@@ -312,20 +276,8 @@ pub extern "C" fn dma330_device_explain_work(
 ) -> i32
     ensures { ReadsOpen (ExplainsChannel WritesWork with_work_cause channel most)
         kept.old.device.value result
-        (record {
-          src = src.old;
-          dst = dst.old;
-          zeros = zeros.old;
-          moments = moments.old;
-          work = work.old;
-        })
-        (record {
-          src = src.new;
-          dst = dst.new;
-          zeros = zeros.new;
-          moments = moments.new;
-          work = work.new;
-        })
+        (work_outputs src.old dst.old zeros.old moments.old work.old)
+        (work_outputs src.new dst.new zeros.new moments.new work.new)
         kept.new.device.value }
 {
     let Some(device) = kept.get_mut() else {

@@ -7,7 +7,8 @@ use Rattle.std.proofs.Math.Seq.{take-append_seam}
 use Rattle.dma_insn.specs.Spelling.{spelling, HasRanges, IsSpelledAt, IsRefusedFor}
 use Rattle.dma_insn.specs.Disassembly.{AllInRange, insn_text, text_of, AreSpelled, Disassembles, StopsAt, DisassemblyReports, line_of}
 use Rattle.dma_insn.specs.{declared.insn.Insn.Insn, declared.codec.DecodeFault.DecodeFault, Decoding.Decoded, Decoding.decoded, AssemblyText.joined}
-use Rattle.dma_insn.proofs.Laws.{IsBytes, Right, one_front, spelling_some, spelled_within, decoded_right, none_spelled}
+use Rattle.dma_insn.proofs.Laws.{Right, one_front, decoded_right, decodes}
+use Rattle.dma_insn.proofs.GrammarLaws.{IsBytes, none_spelled, right_err, spelled_within, spelling_some}
 use Rattle.dma_insn.proofs.{Texts.disassembles, OneText.one_way}
 
 -- the bytes before a place are spellings joined
@@ -140,10 +141,10 @@ pub same_insns : (is js : List Insn) → AllInRange is → AllInRange js → joi
 same_insns [] [] hi hj e = refl
 same_insns [] (j ∷ js) hi hj e =
     let size : 0 ≡ length (spelling j ++ joined js) = ap length e in
-    absurd (let some = spelling_some j in omega (arith, length-append (spelling j) (joined js)))
+    absurd (let some = spelling_some decodes j hj.0 in omega (arith, length-append (spelling j) (joined js)))
 same_insns (i ∷ is) [] hi hj e =
     let size : length (spelling i ++ joined is) ≡ 0 = ap length e in
-    absurd (let some = spelling_some i in omega (arith, length-append (spelling i) (joined is)))
+    absurd (let some = spelling_some decodes i hi.0 in omega (arith, length-append (spelling i) (joined is)))
 same_insns (i ∷ is) (j ∷ js) hi hj e =
     let same = one_front i j (joined is) (joined js) hi.0 hj.0 e in
     let rest = same_insns is js hi.1 hj.1 same.1 in
@@ -185,7 +186,7 @@ cut_more i rest whole h e (inr s) = inr (record {
 cut_by : (k : ℕ) (bytes : List ℕ) (r : Decoded) → decoded bytes ≡ r → Right bytes r → length bytes ≤ suc k → 0 < length bytes → IsBytes bytes
     → ((rest : List ℕ) → length rest ≤ k → IsBytes rest → AreSpelled rest ⊎ BreaksOff rest) → AreSpelled bytes ⊎ BreaksOff bytes
 cut_by k bytes (Ok x) e right small some h more =
-    let within = spelled_within bytes x.0 x.1 right in
+    let within = spelled_within decodes bytes x.0 x.1 right in
     let split : bytes ≡ spelling x.0 ++ drop x.1 bytes = sym (take-append-drop x.1 bytes) ∙ ap (λ (front : List ℕ). front ++ drop x.1 bytes) right.bytes_are in
     let shorter = length-drop x.1 bytes in
     cut_more x.0 (drop x.1 bytes) bytes right.in_range split (more (drop x.1 bytes) (omega arith) (λ i. omega (arith, get_or-drop x.1 bytes i 0, h (x.1 + i))))
@@ -202,7 +203,7 @@ cut (suc k) (b ∷ rest) small h =
 breaks_stops : (bytes : List ℕ) (b : BreaksOff bytes) → StopsAt bytes (length (joined b.insns)) b.fault
 breaks_stops bytes b =
     let read : Right b.rest (Err b.fault) = subst (Right b.rest) b.fault_is (decoded_right b.rest b.are_bytes) in
-    let none = none_spelled b.rest (Err b.fault) (sym b.fault_is) in
+    let none = none_spelled decodes b.rest (Err b.fault) (sym b.fault_is) in
     record {
       insns = b.insns;
       rest = b.rest;
@@ -211,7 +212,7 @@ breaks_stops bytes b =
       offset_is = refl;
       some = b.some;
       fault_is = b.fault_is;
-      refused = read;
+      refused = right_err decodes b.rest (Err b.fault) read;
       none = none;
       longest = λ others more ranges e. longest_front b.insns others b.rest more b.in_range ranges (sym b.bytes_are ∙ e) none;
     }

@@ -1,20 +1,17 @@
 -- How decoding and encoding are related.
-use Rattle.std.proofs.Common.{◌≡◌, ℕ, ◌+◌, ◌-◌, ◌*◌, ◌/◌, ◌%◌, ◌^◌, ◌<◌, ◌≤◌, Bool, true, false, List, [], ◌∷◌, ◌++◌, length, drop, take, get_or, refl, sym, ap}
-use Rattle.std.proofs.Common.{◌∙◌, subst, Ok, Err, arith, cond, eqb, ltb, suc}
-use Rattle.std.proofs.lemmas.Bool.{eqb-true, le-ltb, ltb-false, ltb-true, false≢true}
-use Rattle.std.proofs.{lemmas.Nat.div-mul-add, lemmas.Nat.mod-mul-add, lemmas.List.take-append-drop, lemmas.List.append_cancel_left, lemmas.List.length-take}
+use Rattle.std.proofs.Common.{◌≡◌, ℕ, ◌+◌, ◌-◌, ◌*◌, ◌/◌, ◌%◌, ◌^◌, ◌<◌, ◌≤◌, Bool, true, false, List, [], ◌∷◌, ◌++◌, length, take, refl, sym, ap}
+use Rattle.std.proofs.Common.{◌∙◌, Ok, arith, eqb, ltb, suc}
+use Rattle.std.proofs.lemmas.Bool.{eqb-true, cond_both, le-ltb, ltb-false, ltb-true}
+use Rattle.std.proofs.{lemmas.Nat.div-mul-add, lemmas.Nat.mod-mul-add, lemmas.List.append_cancel_left}
 use Rattle.byteorder.specs.{Numbers.little_number-reads_back, Endian.little_bytes, Endian.little_number}
-use Rattle.std.specs.{Prelude.MatchResult, Prelude.IfOk, Prelude.IfErr, List.list_any}
 use Rattle.dma_insn.specs.declared.insn.Reg.TheVariants.{Sar, Ccr, Dar}
 use Rattle.dma_insn.specs.declared.insn.Insn.TheVariants.{Mov, Ld, St, Rmb, Wmb, Nop, End, Lp, LpEnd, Sev, Wfe}
-use Rattle.dma_insn.specs.Spelling.{spelling, HasRanges, IsSpelledAt, BeginsWith, IsRefusedFor, register_byte, loop_byte, loop_end_byte, invalid_bits}
+use Rattle.dma_insn.specs.Spelling.{spelling, HasRanges, IsSpelledAt, IsRefusedFor, register_byte, loop_byte, loop_end_byte, invalid_bits}
 use Rattle.dma_insn.specs.Spelling.{NoSpellingBeginsAnother}
+use Rattle.dma_insn.proofs.GrammarLaws.{Decodes, IsBytes, Right as Judged, first_is, cut, bad}
 use Rattle.dma_insn.specs.Decoding.{Decoded, by_second, signal_at, wait_at, set_at, set_by, decoded}
 use Rattle.dma_insn.specs.{declared.insn.Reg.Reg, declared.insn.Counter.Counter, declared.insn.Counter.TheVariants.Lc0, declared.insn.Counter.TheVariants.Lc1}
 use Rattle.dma_insn.specs.{declared.insn.Insn.Insn, declared.codec.DecodeFault.TheVariants.Cut, declared.codec.DecodeFault.TheVariants.BadField}
-
-abbrev pub IsBytes : List ℕ → Type 0
-IsBytes bytes = (i : ℕ) → get_or bytes i 0 < 256
 
 -- a byte of two fields
 field : (e b : ℕ) → b < 8 → ((e * 8 + b) / 8 ≡ e) × ((e * 8 + b) % 8 ≡ b)
@@ -53,10 +50,12 @@ decoded_spelling (Sev e) rest h = signal_again e
 decoded_spelling (Wfe e v) rest h = wait_again e v
 decoded_spelling (Mov r v) rest h = set_again r v rest h
 
-pub decoded_at : (bytes : List ℕ) (i : Insn) (n : ℕ) → IsSpelledAt bytes i n → decoded bytes ≡ Ok (i, n)
-decoded_at bytes i n h =
-    let split : bytes ≡ spelling i ++ drop n bytes = sym (take-append-drop n bytes) ∙ ap (λ (front : List ℕ). front ++ drop n bytes) h.bytes_are in
-    ap decoded split ∙ decoded_spelling i (drop n bytes) h.in_range ∙ ap (λ (m : ℕ). Ok (i, m)) (sym h.count_is)
+pub decodes : Decodes HasRanges spelling decoded
+decodes = record { again = decoded_spelling; none = refl }
+
+-- the decoded instruction is encoded at the front of these bytes, and a fault is the first that applies
+abbrev pub Right : List ℕ → Decoded → Type 0
+Right = Judged decodes
 
 same_ok : (r : Decoded) (x y : Insn × ℕ) → r ≡ Ok x → r ≡ Ok y → x ≡ y
 same_ok r x y left right = cc
@@ -69,19 +68,6 @@ one_front i j xs ys hi hj e =
     let same : i ≡ j = ap (λ (p : Insn × ℕ). p.0) both in
     (same, append_cancel_left (spelling i) xs ys (e ∙ ap (λ (k : Insn). spelling k ++ ys) (sym same)))
 
--- the decoded instruction is encoded at the front of these bytes, and a fault is the first that applies
-abbrev pub Right : List ℕ → Decoded → Type 0
-Right bytes read = MatchResult read (λ found. IsSpelledAt bytes found.0 found.1) (λ fault. IsRefusedFor bytes fault)
-
-by_test : (bytes : List ℕ) (t : Bool) (x y : Decoded) → (t ≡ true → Right bytes x) → (t ≡ false → Right bytes y) → Right bytes (cond t x y)
-by_test bytes true x y f g = f refl
-by_test bytes false x y f g = g refl
-
--- by whether the first byte is this
-first_is : (b : ℕ) (rest : List ℕ) (c : ℕ) (x y : Decoded) → Right (c ∷ rest) x → (eqb b c ≡ false → Right (b ∷ rest) y) → Right (b ∷ rest) (cond (eqb b c) x y)
-first_is b rest c x y f g =
-    by_test (b ∷ rest) (eqb b c) x y (λ t. subst (λ (k : ℕ). Right (k ∷ rest) x) (sym (eqb-true b c t)) f) g
-
 one : (i : Insn) (rest : List ℕ) (b : ℕ) → HasRanges i → spelling i ≡ b ∷ [] → IsSpelledAt (b ∷ rest) i 1
 one i rest b h e = record { in_range = h; count_is = sym (ap length e); bytes_are = sym e }
 
@@ -90,15 +76,11 @@ two i rest a b h e = record { in_range = h; count_is = sym (ap length e); bytes_
 
 -- an instruction of two bytes lacks its second
 cut_one : (i : Insn) (a b : ℕ) → HasRanges i → spelling i ≡ a ∷ b ∷ [] → IsRefusedFor (a ∷ []) Cut
-cut_one i a b h e =
-    let long : length (spelling i) ≡ 2 = ap length e in
-    (i, record { in_range = h; tail = b ∷ []; bytes_are = e }, omega arith)
+cut_one i a b h e = cut decodes i a [] (b ∷ []) h e (omega arith)
 
 -- an instruction of two bytes has its second
 bad_two : (i : Insn) (a b c : ℕ) (rest : List ℕ) → HasRanges i → spelling i ≡ a ∷ b ∷ [] → IsRefusedFor (a ∷ c ∷ rest) BadField
-bad_two i a b c rest h e =
-    let long : length (spelling i) ≡ 2 = ap length e in
-    (i, record { in_range = h; tail = b ∷ []; bytes_are = e }, omega arith)
+bad_two i a b c rest h e = bad decodes i a (c ∷ rest) (b ∷ []) h e (omega arith)
 
 loop_right : (c : Counter) (rest : List ℕ) → IsBytes rest → Right (loop_byte c ∷ rest) (by_second rest (λ n. Ok (Lp c (n + 1), 2)))
 loop_right c [] h = cut_one (Lp c 1) (loop_byte c) 0 (omega arith, omega arith) refl
@@ -113,16 +95,16 @@ loop_end_right c (b ∷ rest) h = two (LpEnd c b) rest (loop_end_byte c) b (h 0)
 signal_right : (rest : List ℕ) → IsBytes rest → Right (0x34 ∷ rest) (by_second rest signal_at)
 signal_right [] h = cut_one (Sev 0) 0x34 0 (omega arith) refl
 signal_right (b ∷ rest) h =
-    by_test (0x34 ∷ b ∷ rest) (eqb (b % 8) 0) _ _ (λ t. let e : b % 8 ≡ 0 = eqb-true (b % 8) 0 t in let l : b < 256 = h 0 in
+    cond_both (eqb (b % 8) 0) _ _ (Right (0x34 ∷ b ∷ rest)) (λ t. let e : b % 8 ≡ 0 = eqb-true (b % 8) 0 t in let l : b < 256 = h 0 in
     two (Sev (b / 8)) rest 0x34 b (omega arith) (let s : b / 8 * 8 ≡ b = omega arith in ap (λ (m : ℕ). 0x34 ∷ m ∷ []) s))
     (λ t. bad_two (Sev 0) 0x34 0 b rest (omega arith) refl)
 
 wait_right : (rest : List ℕ) → IsBytes rest → Right (0x36 ∷ rest) (by_second rest wait_at)
 wait_right [] h = cut_one (Wfe 0 false) 0x36 0 (omega arith) refl
 wait_right (b ∷ rest) h =
-    by_test (0x36 ∷ b ∷ rest) (eqb (b % 8) 0) _ _ (λ t. let e : b % 8 ≡ 0 = eqb-true (b % 8) 0 t in let l : b < 256 = h 0 in
+    cond_both (eqb (b % 8) 0) _ _ (Right (0x36 ∷ b ∷ rest)) (λ t. let e : b % 8 ≡ 0 = eqb-true (b % 8) 0 t in let l : b < 256 = h 0 in
     two (Wfe (b / 8) false) rest 0x36 b (omega arith) (let s : b / 8 * 8 + 0 ≡ b = omega arith in ap (λ (m : ℕ). 0x36 ∷ m ∷ []) s)) (λ t.
-    by_test (0x36 ∷ b ∷ rest) (eqb (b % 8) 2) _ _ (λ t. let e : b % 8 ≡ 2 = eqb-true (b % 8) 2 t in let l : b < 256 = h 0 in
+    cond_both (eqb (b % 8) 2) _ _ (Right (0x36 ∷ b ∷ rest)) (λ t. let e : b % 8 ≡ 2 = eqb-true (b % 8) 2 t in let l : b < 256 = h 0 in
     two (Wfe (b / 8) true) rest 0x36 b (omega arith) (let s : b / 8 * 8 + 2 ≡ b = omega arith in ap (λ (m : ℕ). 0x36 ∷ m ∷ []) s))
     (λ t. bad_two (Wfe 0 false) 0x36 0 b rest (omega arith) refl))
 
@@ -141,15 +123,11 @@ little_bytes_little_number (b ∷ c ∷ d ∷ e ∷ rest) h n =
     let e3 : e ≡ v / 16777216 % 256 = omega (arith, bounds) in
     cc (e0, e1, e2, e3)
 
--- DMAMOV's spelling of a register, with any value
-set_begins : (r : Reg) → BeginsWith (Mov r 0) 0xbc
-set_begins r = record { in_range = omega arith; tail = register_byte r ∷ little_bytes 4 0; bytes_are = refl }
-
 set_cut : (rest : List ℕ) → length rest < 5 → IsRefusedFor (0xbc ∷ rest) Cut
-set_cut rest h = (Mov Sar 0, set_begins Sar, omega arith)
+set_cut rest h = cut decodes (Mov Sar 0) 0xbc rest (0 ∷ little_bytes 4 0) (omega arith) refl (omega arith)
 
 set_bad : (rest : List ℕ) → 5 ≤ length rest → IsRefusedFor (0xbc ∷ rest) BadField
-set_bad rest h = (Mov Sar 0, set_begins Sar, omega arith)
+set_bad rest h = bad decodes (Mov Sar 0) 0xbc rest (0 ∷ little_bytes 4 0) (omega arith) refl (omega arith)
 
 set_whole : (r : Reg) (rest : List ℕ) → IsBytes rest → 4 ≤ length rest → IsSpelledAt (0xbc ∷ register_byte r ∷ rest) (Mov r (little_number 4 rest)) 6
 set_whole r rest h n = record {
@@ -160,101 +138,35 @@ set_whole r rest h n = record {
 
 set_field : (a : ℕ) (rest : List ℕ) → IsBytes rest → ltb (length (a ∷ rest)) 5 ≡ false → Right (0xbc ∷ a ∷ rest) (set_at a (little_number 4 rest))
 set_field a rest h n =
-    let bytes = 0xbc ∷ a ∷ rest in
     let long : 5 ≤ length (a ∷ rest) = ltb-false _ 5 n in
     let four : 4 ≤ length rest = omega arith in
-    by_test bytes (eqb a 0) _ _
-    (λ t. subst (λ (k : ℕ). IsSpelledAt (0xbc ∷ k ∷ rest) (Mov Sar (little_number 4 rest)) 6) (sym (eqb-true a 0 t)) (set_whole Sar rest h four)) (λ n0.
-    by_test bytes (eqb a 1) _ _
-    (λ t. subst (λ (k : ℕ). IsSpelledAt (0xbc ∷ k ∷ rest) (Mov Ccr (little_number 4 rest)) 6) (sym (eqb-true a 1 t)) (set_whole Ccr rest h four)) (λ n1.
-    by_test bytes (eqb a 2) _ _
-    (λ t. subst (λ (k : ℕ). IsSpelledAt (0xbc ∷ k ∷ rest) (Mov Dar (little_number 4 rest)) 6) (sym (eqb-true a 2 t)) (set_whole Dar rest h four)) (λ n2.
-    set_bad (a ∷ rest) long)))
+    let at = λ (k : ℕ) (r : Decoded). Right (0xbc ∷ k ∷ rest) r in
+    first_is at a 0 _ _ (set_whole Sar rest h four) (λ n0.
+    first_is at a 1 _ _ (set_whole Ccr rest h four) (λ n1.
+    first_is at a 2 _ _ (set_whole Dar rest h four) (λ n2. set_bad (a ∷ rest) long)))
 
 set_right : (rest : List ℕ) → IsBytes rest → Right (0xbc ∷ rest) (set_by rest)
 set_right [] h = set_cut [] (omega arith)
 set_right (a ∷ rest) h =
-    by_test (0xbc ∷ a ∷ rest) (ltb (length (a ∷ rest)) 5) _ _ (λ t. set_cut (a ∷ rest) (ltb-true _ 5 t)) (λ t. set_field a rest (λ i. h (suc i)) t)
-
--- the bytes with which instructions begin
-abbrev firsts : List ℕ
-firsts = 0x00 ∷ 0x04 ∷ 0x08 ∷ 0x12 ∷ 0x13 ∷ 0x18 ∷ 0x20 ∷ 0x22 ∷ 0x38 ∷ 0x3c ∷ 0x34 ∷ 0x36 ∷ 0xbc ∷ []
-
-first_of : (c b : ℕ) (xs tail : List ℕ) → list_any (eqb c) firsts ≡ true → c ∷ xs ≡ b ∷ tail → list_any (eqb b) firsts ≡ true
-first_of c b xs tail known e = let same : c ≡ b = cc in subst (λ (k : ℕ). list_any (eqb k) firsts ≡ true) same known
-
-begins_known : (i : Insn) (b : ℕ) (tail : List ℕ) → spelling i ≡ b ∷ tail → list_any (eqb b) firsts ≡ true
-begins_known End b tail e = first_of 0x00 b _ tail refl e
-begins_known Ld b tail e = first_of 0x04 b _ tail refl e
-begins_known St b tail e = first_of 0x08 b _ tail refl e
-begins_known Rmb b tail e = first_of 0x12 b _ tail refl e
-begins_known Wmb b tail e = first_of 0x13 b _ tail refl e
-begins_known Nop b tail e = first_of 0x18 b _ tail refl e
-begins_known (Lp Lc0 m) b tail e = first_of 0x20 b _ tail refl e
-begins_known (Lp Lc1 m) b tail e = first_of 0x22 b _ tail refl e
-begins_known (LpEnd Lc0 m) b tail e = first_of 0x38 b _ tail refl e
-begins_known (LpEnd Lc1 m) b tail e = first_of 0x3c b _ tail refl e
-begins_known (Sev m) b tail e = first_of 0x34 b _ tail refl e
-begins_known (Wfe m v) b tail e = first_of 0x36 b _ tail refl e
-begins_known (Mov r v) b tail e = first_of 0xbc b _ tail refl e
+    cond_both (ltb (length (a ∷ rest)) 5) _ _ (Right (0xbc ∷ a ∷ rest)) (λ t. set_cut (a ∷ rest) (ltb-true _ 5 t)) (λ t. set_field a rest (λ i. h (suc i)) t)
 
 -- each first byte, in the order of the table
 pub decoded_right : (bytes : List ℕ) → IsBytes bytes → Right bytes (decoded bytes)
 decoded_right [] h = tt
 decoded_right (b ∷ rest) h =
     let g : IsBytes rest = λ i. h (suc i) in
-    first_is b rest 0x00 _ _ (one End rest 0x00 tt refl) (λ n0.
-    first_is b rest 0x04 _ _ (one Ld rest 0x04 tt refl) (λ n1.
-    first_is b rest 0x08 _ _ (one St rest 0x08 tt refl) (λ n2.
-    first_is b rest 0x12 _ _ (one Rmb rest 0x12 tt refl) (λ n3.
-    first_is b rest 0x13 _ _ (one Wmb rest 0x13 tt refl) (λ n4.
-    first_is b rest 0x18 _ _ (one Nop rest 0x18 tt refl) (λ n5.
-    first_is b rest 0x20 _ _ (loop_right Lc0 rest g) (λ n6.
-    first_is b rest 0x22 _ _ (loop_right Lc1 rest g) (λ n7.
-    first_is b rest 0x38 _ _ (loop_end_right Lc0 rest g) (λ n8.
-    first_is b rest 0x3c _ _ (loop_end_right Lc1 rest g) (λ n9.
-    first_is b rest 0x34 _ _ (signal_right rest g) (λ n10.
-    first_is b rest 0x36 _ _ (wait_right rest g) (λ n11.
-    first_is b rest 0xbc _ _ (set_right rest g) (λ n12.
-    let unknown : list_any (eqb b) firsts ≡ false = rw (n0, n1, n2, n3, n4, n5, n6, n7, n8, n9, n10, n11, n12) refl in
-    (refl, λ i begins. absurd (false≢true (sym unknown ∙ begins_known i b begins.tail begins.bytes_are))))))))))))))))
-
-pub right_ok : (bytes : List ℕ) (r : Decoded) → Right bytes r → IfOk r (λ found. IsSpelledAt bytes found.0 found.1)
-right_ok bytes (Ok x) h = h
-right_ok bytes (Err e) h = tt
-
-pub right_err : (bytes : List ℕ) (r : Decoded) → Right bytes r → IfErr r (λ fault. IsRefusedFor bytes fault)
-right_err bytes (Ok x) h = tt
-right_err bytes (Err e) h = h
-
--- where decoding fails, no instruction is encoded
-pub none_spelled : (bytes : List ℕ) (r : Decoded) → r ≡ decoded bytes → IfErr r (λ _. (i : Insn) (n : ℕ) → IsSpelledAt bytes i n → ⊥)
-none_spelled bytes (Ok x) e = tt
-none_spelled bytes (Err fault) e = λ i n h. let found = decoded_at bytes i n h in cc
-
-pub spelling_some : (i : Insn) → 0 < length (spelling i)
-spelling_some End = omega arith
-spelling_some Ld = omega arith
-spelling_some St = omega arith
-spelling_some Rmb = omega arith
-spelling_some Wmb = omega arith
-spelling_some Nop = omega arith
-spelling_some (Lp c n) = omega arith
-spelling_some (LpEnd c b) = omega arith
-spelling_some (Sev e) = omega arith
-spelling_some (Wfe e v) = omega arith
-spelling_some (Mov r v) = omega arith
-
--- An instruction that is encoded at the front has at least one byte, and not more than there are.
-pub spelled_within : (bytes : List ℕ) (i : Insn) (n : ℕ) → IsSpelledAt bytes i n → (0 < n) × (n ≤ length bytes)
-spelled_within bytes i n h =
-    let some = spelling_some i in
-    let count = h.count_is in
-    let same : length (take n bytes) ≡ length (spelling i) = ap length h.bytes_are in
-    let taken = length-take n bytes in
-    (omega arith, omega arith)
-
-pub within_ok : (bytes : List ℕ) (r : Decoded) → IfOk r (λ found. IsSpelledAt bytes found.0 found.1)
-    → IfOk r (λ found. (0 < found.1) × (found.1 ≤ length bytes))
-within_ok bytes (Ok x) h = spelled_within bytes x.0 x.1 h
-within_ok bytes (Err fault) h = tt
+    let at = λ (k : ℕ) (r : Decoded). Right (k ∷ rest) r in
+    first_is at b 0x00 _ _ (one End rest 0x00 tt refl) (λ n0.
+    first_is at b 0x04 _ _ (one Ld rest 0x04 tt refl) (λ n1.
+    first_is at b 0x08 _ _ (one St rest 0x08 tt refl) (λ n2.
+    first_is at b 0x12 _ _ (one Rmb rest 0x12 tt refl) (λ n3.
+    first_is at b 0x13 _ _ (one Wmb rest 0x13 tt refl) (λ n4.
+    first_is at b 0x18 _ _ (one Nop rest 0x18 tt refl) (λ n5.
+    first_is at b 0x20 _ _ (loop_right Lc0 rest g) (λ n6.
+    first_is at b 0x22 _ _ (loop_right Lc1 rest g) (λ n7.
+    first_is at b 0x38 _ _ (loop_end_right Lc0 rest g) (λ n8.
+    first_is at b 0x3c _ _ (loop_end_right Lc1 rest g) (λ n9.
+    first_is at b 0x34 _ _ (signal_right rest g) (λ n10.
+    first_is at b 0x36 _ _ (wait_right rest g) (λ n11.
+    first_is at b 0xbc _ _ (set_right rest g) (λ n12.
+    (refl, λ more. rw (n0, n1, n2, n3, n4, n5, n6, n7, n8, n9, n10, n11, n12) refl))))))))))))))

@@ -1,3 +1,4 @@
+pub mod GrammarLaws
 pub mod Laws
 pub mod ChipLaws
 pub mod ControlLaws

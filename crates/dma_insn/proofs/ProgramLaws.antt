@@ -124,33 +124,35 @@ outcome_behind n program next line lines front (Err (ProgramTooLong m)) adds h =
     }
 outcome_behind n program next line lines front (Err NoMemory) adds h = h
 
+-- the outcome of further lines, whatever program they follow
+abbrev Further : ℕ → List (List ℕ) → Type 0
+Further n lines = (next : List ℕ) → length next ≤ most_program_bytes → Outcome n next lines (after_lines n next lines)
+
 -- a line that is not skipped, by what its words are read as, and whether there is room
-outcome_room : (n : ℕ) (program line : List ℕ) (lines : List (List ℕ)) (i : Insn) (b : Bool) → leb (length program + length (spelling i)) 8192 ≡ b
-    → length program ≤ most_program_bytes → Writes line i
-    → ((next : List ℕ) → length next ≤ most_program_bytes → Outcome (n + 1) next lines (after_lines (n + 1) next lines))
+outcome_room : (n : ℕ) (program line : List ℕ) (lines : List (List ℕ)) (i : Insn) (b : Bool) → leb (length program + length (spelling i)) most_program_bytes ≡ b
+    → length program ≤ most_program_bytes → Writes line i → Further (n + 1) lines
     → Outcome n program (line ∷ lines) (cond b (Ok (program ++ spelling i)) (Err (ProgramTooLong (n + 1))) >>= λ next. after_lines (n + 1) next lines)
 outcome_room n program line lines i true e small w more =
-    let room : length program + length (spelling i) ≤ 8192 = leb-true _ 8192 e in
+    let room : length program + length (spelling i) ≤ most_program_bytes = leb-true _ most_program_bytes e in
     let same = length-append program (spelling i) in
     outcome_behind n program (program ++ spelling i) line lines (i ∷ []) _
     (record { writes = λ ls is h. write_more line ls i is w h; joins = λ is. append_assoc program (spelling i) (joined is) })
     (more (program ++ spelling i) (omega arith))
 outcome_room n program line lines i false e small w more =
-    let none : 8192 < length program + length (spelling i) = leb-false _ 8192 e in
+    let none : most_program_bytes < length program + length (spelling i) = leb-false _ most_program_bytes e in
     let same = length-append program [] in
     record { line = line; insns = []; insn = i; place = place_here n program line lines small; writes = w; long = omega arith }
 
 outcome_line : (n : ℕ) (program line : List ℕ) (lines : List (List ℕ)) (r : Result Insn AsmCause) → line_in (words_of line) ≡ r
-    → length program ≤ most_program_bytes → is_skipped line ≡ false
-    → ((next : List ℕ) → length next ≤ most_program_bytes → Outcome (n + 1) next lines (after_lines (n + 1) next lines))
+    → length program ≤ most_program_bytes → is_skipped line ≡ false → Further (n + 1) lines
     → Outcome n program (line ∷ lines) ((at_line (n + 1) r >>= with_insn (n + 1) program) >>= λ next. after_lines (n + 1) next lines)
 outcome_line n program line lines (Err cause) e small taken more =
     record { line = line; insns = []; place = place_here n program line lines small; cause_is = record { taken = taken; cause_is = cause_of line cause e } }
 outcome_line n program line lines (Ok i) e small taken more =
-    outcome_room n program line lines i (leb (length program + length (spelling i)) 8192) refl small (written_by line i taken e) more
+    outcome_room n program line lines i (leb (length program + length (spelling i)) most_program_bytes) refl small (written_by line i taken e) more
 
 outcome_by : (n : ℕ) (program line : List ℕ) (lines : List (List ℕ)) (b : Bool) → is_skipped line ≡ b → length program ≤ most_program_bytes
-    → ((next : List ℕ) → length next ≤ most_program_bytes → Outcome (n + 1) next lines (after_lines (n + 1) next lines))
+    → Further (n + 1) lines
     → Outcome n program (line ∷ lines)
     (cond b (Ok program) (at_line (n + 1) (line_in (words_of line)) >>= with_insn (n + 1) program) >>= λ next. after_lines (n + 1) next lines)
 outcome_by n program line lines true e small more =
@@ -167,9 +169,9 @@ outcome (line ∷ lines) n program small =
 
 -- The lines that write some instructions are read as them, if there is room.
 read_room : (n : ℕ) (program : List ℕ) (line : List ℕ) (i : Insn) → is_skipped line ≡ false → line_in (words_of line) ≡ Ok i
-    → length program + length (spelling i) ≤ 8192 → after_line n program line ≡ Ok (program ++ spelling i)
+    → length program + length (spelling i) ≤ most_program_bytes → after_line n program line ≡ Ok (program ++ spelling i)
 unfolding after_line
-read_room n program line i taken e room = rw (taken, e, le-leb _ 8192 room) refl
+read_room n program line i taken e room = rw (taken, e, le-leb _ most_program_bytes room) refl
 
 read_skipped : (n : ℕ) (program line : List ℕ) → is_skipped line ≡ true → after_line n program line ≡ Ok program
 unfolding after_line
@@ -180,42 +182,39 @@ read_fault : (n : ℕ) (program line : List ℕ) (cause : AsmCause) → is_skipp
 unfolding after_line
 read_fault n program line cause taken e = rw (taken, e) refl
 
-read_long : (n : ℕ) (program line : List ℕ) (i : Insn) → is_skipped line ≡ false → line_in (words_of line) ≡ Ok i → 8192 < length program + length (spelling i)
-    → after_line n program line ≡ Err (ProgramTooLong n)
+read_long : (n : ℕ) (program line : List ℕ) (i : Insn) → is_skipped line ≡ false → line_in (words_of line) ≡ Ok i
+    → most_program_bytes < length program + length (spelling i) → after_line n program line ≡ Err (ProgramTooLong n)
 unfolding after_line
-read_long n program line i taken e long = rw (taken, e, lt-leb _ 8192 long) refl
+read_long n program line i taken e long = rw (taken, e, lt-leb _ most_program_bytes long) refl
 
--- the same, in front of further lines
+-- the same, in front of further lines, of which the first is line m + 1
+abbrev Again : List (List ℕ) → List (List ℕ) → ℕ → List ℕ → List Insn → Type 0
+Again lines after n program is = (m : ℕ) → m ≡ n + length lines → length (program ++ joined is) ≤ most_program_bytes
+    → after_lines n program (lines ++ after) ≡ after_lines m (program ++ joined is) after
+
 again_by : (b : Bool) (line : List ℕ) (lines after : List (List ℕ)) (n : ℕ) (program : List ℕ) (is : List Insn) → is_skipped line ≡ b
     → MatchBool b (WriteAll lines is) (WritesFirst line is (λ rest. WriteAll lines rest))
-    → ((next : List ℕ) (js : List Insn) → WriteAll lines js → length (next ++ joined js) ≤ most_program_bytes
-    → after_lines (n + 1) next (lines ++ after) ≡ after_lines (n + 1 + length lines) (next ++ joined js) after)
-    → length (program ++ joined is) ≤ most_program_bytes
-    → after_lines n program (line ∷ (lines ++ after)) ≡ after_lines (n + 1 + length lines) (program ++ joined is) after
-again_by true line lines after n program is e h more room = rw (read_skipped (n + 1) program line e) (more program is h room)
-again_by false line lines after n program is e h more room =
+    → ((next : List ℕ) (js : List Insn) → WriteAll lines js → Again lines after (n + 1) next js) → Again (line ∷ lines) after n program is
+again_by true line lines after n program is e h more m at room = rw (read_skipped (n + 1) program line e) (more program is h m (omega arith) room)
+again_by false line lines after n program is e h more m at room =
     let all : program ++ joined is ≡ (program ++ spelling h.first) ++ joined h.rest = ap (λ (js : List Insn). program ++ joined js) h.are
     ∙ sym (append_assoc program (spelling h.first) (joined h.rest)) in
     let size : length (program ++ joined is) ≡ length ((program ++ spelling h.first) ++ joined h.rest) = ap length all in
     let first = length-append program (spelling h.first) in
     let rest = length-append (program ++ spelling h.first) (joined h.rest) in
     rw (read_room (n + 1) program line h.first e (writes_read line h.first h.writes) (omega arith))
-    (more (program ++ spelling h.first) h.rest h.more (omega arith) ∙ ap (λ (p : List ℕ). after_lines (n + 1 + length lines) p after) (sym all))
+    (more (program ++ spelling h.first) h.rest h.more m (omega arith) (omega arith) ∙ ap (λ (p : List ℕ). after_lines m p after) (sym all))
 
-again_before : (lines after : List (List ℕ)) (n : ℕ) (program : List ℕ) (is : List Insn) → WriteAll lines is
-    → length (program ++ joined is) ≤ most_program_bytes
-    → after_lines n program (lines ++ after) ≡ after_lines (n + length lines) (program ++ joined is) after
-again_before [] after n program is h room =
-    let e : n ≡ n + 0 = omega arith in
-    rw h (ap (λ (p : List ℕ). after_lines n p after) (sym (append-nil program)) ∙ ap (λ (m : ℕ). after_lines m (program ++ []) after) e)
-again_before (line ∷ lines) after n program is h room =
-    let e : n + 1 + length lines ≡ n + length (line ∷ lines) = omega arith in
-    again_by (is_skipped line) line lines after n program is refl h (λ next js written fits. again_before lines after (n + 1) next js written fits) room
-    ∙ ap (λ (m : ℕ). after_lines m (program ++ joined is) after) e
+again_before : (lines after : List (List ℕ)) (n : ℕ) (program : List ℕ) (is : List Insn) → WriteAll lines is → Again lines after n program is
+again_before [] after n program is h m at room =
+    let e : n ≡ m = omega arith in
+    rw (h, e) (ap (λ (p : List ℕ). after_lines m p after) (sym (append-nil program)))
+again_before (line ∷ lines) after n program is h m at room =
+    again_by (is_skipped line) line lines after n program is refl h (λ next js written. again_before lines after (n + 1) next js written) m at room
 
 again : (lines : List (List ℕ)) (n : ℕ) (program : List ℕ) (is : List Insn) → WriteAll lines is → length (program ++ joined is) ≤ most_program_bytes
     → after_lines n program lines ≡ Ok (program ++ joined is)
-again lines n program is h room = ap (after_lines n program) (sym (append-nil lines)) ∙ again_before lines [] n program is h room
+again lines n program is h room = ap (after_lines n program) (sym (append-nil lines)) ∙ again_before lines [] n program is h _ refl room
 
 -- A text that assembles is read as its bytes.
 pub assembled_again : (text bytes : List ℕ) → Assembles text bytes → assembled text ≡ Ok bytes
@@ -320,9 +319,7 @@ cause_read line cause h = cause_by line cause (line_in (words_of line)) refl (li
 read_before : (text line : List ℕ) (n : ℕ) (insns : List Insn) (at : IsLineAt text line n insns)
     → assembled text ≡ after_lines (length at.before) (joined insns) (line ∷ at.after)
 read_before text line n insns at =
-    let e : 0 + length at.before ≡ length at.before = omega arith in
-    ap (after_lines 0 []) at.lines_are ∙ again_before at.before (line ∷ at.after) 0 [] insns at.writes at.fits
-    ∙ ap (λ (m : ℕ). after_lines m (joined insns) (line ∷ at.after)) e
+    ap (after_lines 0 []) at.lines_are ∙ again_before at.before (line ∷ at.after) 0 [] insns at.writes (length at.before) (omega arith) at.fits
 
 -- The first fault of a text is what it is read as.
 fault_read : (text : List ℕ) (fault : AsmFault) → fault ≢ NoMemory → IsFirstFault text fault → assembled text ≡ Err fault

@@ -1,10 +1,11 @@
 -- The instructions of a chip's channels: those of the model, and the bytes of four more (PL330 manual, instruction
 -- chapter).
-use Rattle.std.specs.Prelude.{◌≡◌, ℕ, ◌+◌, ◌-◌, ◌*◌, ◌^◌, ◌<◌, ◌≤◌, ◌==◌, Bool, true, false, List, [], ◌∷◌, length, take, drop, slice_index, nat_lt}
+use Rattle.std.specs.Prelude.{ℕ, ◌+◌, ◌-◌, ◌*◌, ◌^◌, ◌<◌, ◌≤◌, ◌==◌, Bool, true, false, List, [], ◌∷◌, length, drop, slice_index, nat_lt}
 use Rattle.std.specs.Prelude.{if◌then◌else◌, Result, Ok, Err}
 use Rattle.byteorder.specs.Endian.{little_bytes, little_number}
 use Rattle.dma_insn.specs.declared.chip.ChipInsn.TheVariants.{Mov, Ld, St, Rmb, Wmb, Nop, End, Lp, LpEnd, Sev, Wfe, StoreZeros, AddHalfword, LoopAgain}
-use Rattle.dma_insn.specs.declared.codec.DecodeFault.TheVariants.{Cut, Unknown, BadField}
+use Rattle.dma_insn.specs.declared.codec.DecodeFault.TheVariants.{Cut, Unknown}
+use Rattle.dma_insn.specs.Grammar.{Spelled, Refused, or_more}
 use Rattle.dma_insn.specs.Spelling.{register_byte, loop_byte, loop_end_byte, invalid_bits}
 use Rattle.dma_insn.specs.{declared.chip.ChipInsn.ChipInsn, declared.chip.Address.Address, declared.chip.Address.TheVariants.Source}
 use Rattle.dma_insn.specs.{declared.chip.Address.TheVariants.Destination, declared.insn.Insn.Insn, declared.insn.Counter.Counter}
@@ -89,26 +90,12 @@ HasCoreRanges (LoopAgain c b) = ⊥
 HasCoreRanges i = HasRanges i
 
 -- The first n bytes are the encoding of the instruction i, which is in range.
-pub record IsSpelledAt (bytes : List ℕ) (i : ChipInsn) (n : ℕ) : Type 0 where
-  pub in_range : HasRanges i
-  pub count_is : n ≡ length (spelling i)
-  pub bytes_are : take n bytes ≡ spelling i
+abbrev pub IsSpelledAt : List ℕ → ChipInsn → ℕ → Type 0
+IsSpelledAt = Spelled HasRanges spelling
 
--- The encoding of the instruction i, which is in range, begins with this byte.
-pub record BeginsWith (i : ChipInsn) (byte : ℕ) : Type 0 where
-  pub in_range : HasRanges i
-  pub tail : List ℕ
-  pub bytes_are : spelling i ≡ byte ∷ tail
-
--- Why bytes that begin with no instruction of a chip are refused: in the order of the model's grammar
--- (`Spelling.IsRefusedFor`).
+-- why bytes that begin with no instruction of a chip are refused
 abbrev pub IsRefusedFor : List ℕ → DecodeFault → Type 0
-IsRefusedFor [] Cut = Unit {0}
-IsRefusedFor [] (Unknown b) = ⊥
-IsRefusedFor [] BadField = ⊥
-IsRefusedFor (first ∷ rest) (Unknown b) = (b ≡ first) × ((i : ChipInsn) → BeginsWith i first → ⊥)
-IsRefusedFor (first ∷ rest) Cut = (i : ChipInsn) × BeginsWith i first × (length (first ∷ rest) < length (spelling i))
-IsRefusedFor (first ∷ rest) BadField = (i : ChipInsn) × BeginsWith i first × (length (spelling i) ≤ length (first ∷ rest))
+IsRefusedFor = Refused HasRanges spelling
 
 -- ---- decoding
 
@@ -147,9 +134,7 @@ beyond_core b bytes =
 
 -- where the model's grammar has no instruction with the first byte, a chip may have one
 abbrev pub or_beyond : List ℕ → CoreDecoded → Decoded
-or_beyond bytes (Ok x) = Ok (widened x.0, x.1)
-or_beyond bytes (Err (Unknown b)) = beyond_core b bytes
-or_beyond bytes (Err fault) = Err fault
+or_beyond = or_more widened beyond_core
 
 -- the instruction at the front of the bytes in a chip's grammar
 abbrev pub decoded : List ℕ → Decoded

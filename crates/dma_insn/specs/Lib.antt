@@ -1,3 +1,4 @@
+pub mod Grammar
 pub mod Spelling
 pub mod Decoding
 pub mod Chip

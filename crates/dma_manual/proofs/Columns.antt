@@ -6,7 +6,7 @@ use Rattle.std.proofs.{lemmas.Bool.leb-true, lemmas.List.length-drop}
 use Rattle.dma_insn.specs.ControlWord.{HasEndRanges, beat_bytes, control_of}
 use Rattle.dma_insn.specs.declared.insn.Reg.TheVariants.{Sar, Ccr, Dar}
 use Rattle.dma_insn.specs.declared.chip.ChipInsn.TheVariants.{Mov, Lp, LpEnd, Sev, Wfe, AddHalfword, LoopAgain}
-use Rattle.dma_insn.specs.{declared.control.BeatSize.BeatSize, declared.control.BeatSize.TheVariants.One, declared.control.BurstEnd.BurstEnd}
+use Rattle.dma_insn.specs.{declared.control.BurstEnd.BurstEnd}
 use Rattle.dma_insn.specs.{declared.control.Control.Control, declared.control.ControlFault.ControlFault, declared.insn.Counter.Counter}
 use Rattle.dma_insn.specs.{declared.insn.Counter.TheVariants.Lc0, declared.insn.Counter.TheVariants.Lc1, declared.chip.ChipInsn.ChipInsn}
 use Rattle.dma_insn.proofs.ControlLaws.{control_of_fields}
@@ -19,7 +19,7 @@ use Rattle.dma_manual.specs.{declared.insns.Request.TheVariants.Burst, declared.
 use Rattle.dma_manual.specs.{declared.manual.Side.TheVariants.Source, declared.manual.Side.TheVariants.Destination, Insns.HasOtherRanges, Insns.HasRanges}
 use Rattle.dma_manual.specs.{Listing.blanks_behind, Listing.indented, Listing.jump_of, Listing.label_name, Listing.statement_text, Laws.CommentsStandInColumns}
 use Rattle.dma_text.specs.Digits.{hex_digits}
-use Rattle.dma_manual.proofs.{Numerals.each, Numerals.each_at, ControlTexts.ranges_of, ControlTexts.signals_le}
+use Rattle.dma_manual.proofs.{Numerals.each, Numerals.each_at, ControlTexts.ranges_of, ControlTexts.signals_le, ControlTexts.size_le}
 use Rattle.dma_insn.specs.Chip.{HasRanges as HasChipRanges}
 use Rattle.dma_insn.specs.declared.chip.Address.TheVariants as address
 use Rattle.dma_manual.specs.declared.insns.Action.TheVariants as action
@@ -61,13 +61,8 @@ flag_le side name n =
 
 increments_le : (side : Side) (i : Bool) → length (codes " " ++ letter side ++ increment_name i) ≡ 4
 increments_le Source true = refl
-increments_le Source false = refl
 increments_le Destination true = refl
-increments_le Destination false = refl
-
-size_le : (s : BeatSize) → 8 * beat_bytes s ≤ 256
-size_le One = omega arith
-size_le _ = omega arith
+increments_le _ _ = refl
 
 end_le : (side : Side) (e : BurstEnd) → HasEndRanges e → length (end_text side e) ≤ 22 + length (decimal (cache_signals side e.cache))
 end_le side e h =

@@ -374,7 +374,7 @@ increments_inline Source true = refl
 increments_inline Destination true = refl
 increments_inline _ _ = refl
 
-size_le : (s : BeatSize) → 8 * beat_bytes s ≤ 256
+pub size_le : (s : BeatSize) → 8 * beat_bytes s ≤ 256
 size_le One = omega arith
 size_le _ = omega arith
 

@@ -20,7 +20,8 @@ use Rattle.dma_manual.proofs.Cuts.{all_append, code_before, inline_no_feed, is_i
 use Rattle.dma_manual.proofs.Growth.{Grown, Quiet, end_grown, insn_grown, lines_step, read_whole, says_line}
 use Rattle.dma_manual.proofs.LabelTexts.{are_labels, label_found, label_inline, label_taken, label_word, label_words, labels_later, named_at}
 use Rattle.dma_manual.proofs.{Numerals.decimal_feed, Numerals.hex_feed, Numerals.plain, Numerals.spaced_feed, Said.Says, Said.end_label, Said.says_end}
-use Rattle.dma_manual.proofs.{Said.says_spaced, InsnLaws.spelling_some, InsnTexts.insn_inline, InsnTexts.insn_says, InsnTexts.statement_of}
+use Rattle.dma_insn.proofs.GrammarLaws.{spelling_some}
+use Rattle.dma_manual.proofs.{Said.says_spaced, InsnLaws.decodes, InsnTexts.insn_inline, InsnTexts.insn_says, InsnTexts.statement_of}
 use Rattle.dma_manual.proofs.{ListedLines.AllInRange, ListedLines.joined, ListedLines.lines_of, ListedLines.listed_lines}
 use Rattle.dma_manual.specs.Assembled.{Read, after_statement, empty, end_of, jump_of as jump_from, place_of, take_line, take_lines, with_statement}
 use Rattle.dma_manual.specs.declared.statements.End.TheVariants as ends
@@ -283,7 +284,7 @@ lines_read (i ∷ insns) r n at labels o more range here fits =
     let size = length-append (spelling i) (joined insns) in
     let end = o + length (spelling i) in
     let at_o = here.here in
-    let some = spelling_some i in
+    let some = spelling_some decodes i range.0 in
     let behind = label_behind i end in
     let rest = lines_of at (more_labels labels behind) end insns in
     let line = line_read r n at labels o i (label_text behind ++ (rest ++ more)) (insn_said r labels o i here range.0 (omega arith) (omega arith)) in

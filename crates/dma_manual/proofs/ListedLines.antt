@@ -4,11 +4,11 @@ use Rattle.std.proofs.Common.{arith, append_assoc, length-append}
 use Rattle.std.proofs.{lemmas.Bool.false≢true, lemmas.List.take-append-drop, lemmas.List.get_or-drop, lemmas.List.length-drop}
 use Rattle.std.specs.List.{flat_map}
 use Rattle.dma_insn.specs.declared.chip.ChipInsn.TheVariants.{End}
-use Rattle.dma_insn.proofs.Laws.{IsBytes}
+use Rattle.dma_insn.proofs.GrammarLaws.{IsBytes, spelled_within}
 use Rattle.dma_manual.specs.Insns.{Decoded, HasRanges, IsSpelledAt, decoded, spelling}
 use Rattle.dma_manual.specs.Listing.{Listing, follow, stop, is_end, label_behind, label_text, line_text, listed_from, more_labels, with_text}
 use Rattle.dma_manual.specs.{declared.insns.ManualInsn.ManualInsn, declared.insns.ManualInsn.TheVariants.Chip, Laws.shown}
-use Rattle.dma_manual.proofs.{InsnLaws.Right, InsnLaws.decoded_right, InsnLaws.spelled_within, Listings.listed_from_first}
+use Rattle.dma_manual.proofs.{InsnLaws.Right, InsnLaws.decoded_right, InsnLaws.decodes, Listings.listed_from_first}
 
 -- the bytes of instructions
 abbrev pub joined : List ManualInsn → List ℕ
@@ -72,7 +72,7 @@ listed_by : (at : ℕ) (labels : List ℕ) (o n : ℕ) (xs program : List ℕ) (
     → IsListed at more p rest program (listed_from at more p 0 rest))
     → IsListed at labels o xs program (listed_from at labels o 0 xs)
 listed_by at labels o n xs program i true ends total read at_front more =
-    let within = spelled_within xs i n at_front in
+    let within = spelled_within decodes xs i n at_front in
     let is : i ≡ Chip End = end_is i ends in
     let one : n ≡ 1 = at_front.count_is ∙ ap (λ (k : ManualInsn). length (spelling k)) is in
     let first = listed_from_first at labels o n xs i read within.0 within.1 in
@@ -84,7 +84,7 @@ listed_by at labels o n xs program i true ends total read at_front more =
     (line ∙ ap (λ (k : ManualInsn). with_text (line_text at labels o k) (record { text = []; ending = follow (length xs - n) })) is
     ∙ ap (λ (m : ℕ). with_text (line_text at labels o (Chip End)) (record { text = []; ending = follow (length xs - m) })) one)
 listed_by at labels o n xs program i false goes total read at_front more =
-    let within = spelled_within xs i n at_front in
+    let within = spelled_within decodes xs i n at_front in
     let size = at_front.count_is in
     let first = listed_from_first at labels o n xs i read within.0 within.1 in
     let split : xs ≡ spelling i ++ drop (length (spelling i)) xs =

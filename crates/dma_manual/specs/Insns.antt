@@ -1,6 +1,6 @@
 -- The manual's instructions (ARM DDI 0424, instruction set): those that channels of the model execute, and the bytes of
 -- those that none executes.
-use Rattle.std.specs.Prelude.{◌≡◌, ℕ, ◌*◌, ◌/◌, ◌%◌, ◌^◌, ◌<◌, ◌≤◌, ◌==◌, Bool, true, false, List, [], ◌∷◌, length, take, drop, slice_index, nat_lt}
+use Rattle.std.specs.Prelude.{ℕ, ◌+◌, ◌*◌, ◌/◌, ◌%◌, ◌^◌, ◌<◌, ◌==◌, Bool, true, false, List, [], ◌∷◌, length, drop, slice_index, nat_lt}
 use Rattle.std.specs.Prelude.{if◌then◌else◌, Result, Ok, Err}
 use Rattle.byteorder.specs.Endian.{little_bytes, little_number}
 use Rattle.dma_insn.specs.declared.codec.DecodeFault.TheVariants.{Cut, Unknown, BadField}
@@ -10,26 +10,20 @@ use Rattle.dma_manual.specs.declared.insns.OtherInsn.TheVariants.{Kill, LdIf, St
 use Rattle.dma_manual.specs.{declared.insns.Action.Action, declared.insns.ManualInsn.ManualInsn, declared.insns.ManualInsn.TheVariants.Chip}
 use Rattle.dma_manual.specs.{declared.insns.ManualInsn.TheVariants.Other, declared.insns.OtherInsn.OtherInsn, declared.insns.Request.Request}
 use Rattle.dma_manual.specs.{declared.insns.Request.TheVariants.Single, declared.insns.Request.TheVariants.Burst}
+use Rattle.dma_insn.specs.Grammar.{Refused, Spelled, or_more}
 use Rattle.dma_insn.specs.Chip.{Decoded as ChipDecoded, HasRanges as HasChipRanges, decoded as chip_decoded, spelling as chip_spelling}
 use Rattle.dma_manual.specs.declared.insns.Action.TheVariants as action
 use Rattle.dma_manual.specs.declared.insns.Awaited.TheVariants as awaited
 
--- the byte of DMALDS or DMALDB
-abbrev pub load_if_byte : Request → ℕ
-load_if_byte Single = 0x05
-load_if_byte Burst = 0x07
-
--- the byte of DMASTS or DMASTB
-abbrev pub store_if_byte : Request → ℕ
-store_if_byte Single = 0x09
-store_if_byte Burst = 0x0b
+-- the bits of a byte that say for which kind of request an instruction is: its bit 1
+abbrev pub request_bits : Request → ℕ
+request_bits Single = 0
+request_bits Burst = 2
 
 -- the first byte of an instruction with a peripheral: DMALDPS, DMALDPB, DMASTPS, DMASTPB, DMAWFP or DMAFLUSHP
 abbrev pub action_byte : Action → ℕ
-action_byte (action.Ld Single) = 0x25
-action_byte (action.Ld Burst) = 0x27
-action_byte (action.St Single) = 0x29
-action_byte (action.St Burst) = 0x2b
+action_byte (action.Ld r) = 0x25 + request_bits r
+action_byte (action.St r) = 0x29 + request_bits r
 action_byte (action.Wait awaited.Single) = 0x30
 action_byte (action.Wait awaited.Either) = 0x31
 action_byte (action.Wait awaited.Burst) = 0x32
@@ -37,15 +31,8 @@ action_byte action.Flush = 0x35
 
 -- the first byte of a DMALPENDS or DMALPENDB of a loop that DMALP begins
 abbrev pub end_if_byte : Request → Counter → ℕ
-end_if_byte Single Lc0 = 0x39
-end_if_byte Burst Lc0 = 0x3b
-end_if_byte Single Lc1 = 0x3d
-end_if_byte Burst Lc1 = 0x3f
-
--- the first byte of a DMALPENDS or DMALPENDB of a loop that DMALPFE begins
-abbrev pub again_if_byte : Request → ℕ
-again_if_byte Single = 0x2d
-again_if_byte Burst = 0x2f
+end_if_byte r Lc0 = 0x39 + request_bits r
+end_if_byte r Lc1 = 0x3d + request_bits r
 
 -- the first byte of DMAGO, whose bit 1 is ns
 abbrev pub go_byte : Bool → ℕ
@@ -57,11 +44,11 @@ go_byte true = 0xa2
 -- four bytes of the address, the lowest first.
 abbrev pub other_spelling : OtherInsn → List ℕ
 other_spelling Kill = 0x01 ∷ []
-other_spelling (LdIf r) = load_if_byte r ∷ []
-other_spelling (StIf r) = store_if_byte r ∷ []
+other_spelling (LdIf r) = (0x05 + request_bits r) ∷ []
+other_spelling (StIf r) = (0x09 + request_bits r) ∷ []
 other_spelling (OfPeripheral a p) = action_byte a ∷ (p * 8) ∷ []
 other_spelling (LpEndIf r c b) = end_if_byte r c ∷ b ∷ []
-other_spelling (LoopAgainIf r b) = again_if_byte r ∷ b ∷ []
+other_spelling (LoopAgainIf r b) = (0x2d + request_bits r) ∷ b ∷ []
 other_spelling (Go c a ns) = go_byte ns ∷ c ∷ little_bytes 4 a
 
 -- the bytes of an instruction
@@ -85,27 +72,12 @@ HasRanges (Chip i) = HasChipRanges i
 HasRanges (Other i) = HasOtherRanges i
 
 -- The first n bytes are the encoding of the instruction i, which is in range.
-pub record IsSpelledAt (bytes : List ℕ) (i : ManualInsn) (n : ℕ) : Type 0 where
-  pub in_range : HasRanges i
-  pub count_is : n ≡ length (spelling i)
-  pub bytes_are : take n bytes ≡ spelling i
+abbrev pub IsSpelledAt : List ℕ → ManualInsn → ℕ → Type 0
+IsSpelledAt = Spelled HasRanges spelling
 
--- The encoding of the instruction i, which is in range, begins with this byte.
-pub record BeginsWith (i : ManualInsn) (byte : ℕ) : Type 0 where
-  pub in_range : HasRanges i
-  pub tail : List ℕ
-  pub bytes_are : spelling i ≡ byte ∷ tail
-
--- Why bytes that begin with no instruction are refused.
+-- why bytes that begin with no instruction are refused
 abbrev pub IsRefusedFor : List ℕ → DecodeFault → Type 0
-IsRefusedFor [] Cut = Unit {0}
-IsRefusedFor [] (Unknown b) = ⊥
-IsRefusedFor [] BadField = ⊥
-IsRefusedFor (first ∷ rest) (Unknown b) = (b ≡ first) × ((i : ManualInsn) → BeginsWith i first → ⊥)
-IsRefusedFor (first ∷ rest) Cut =
-    (i : ManualInsn) × BeginsWith i first × (length (first ∷ rest) < length (spelling i))
-IsRefusedFor (first ∷ rest) BadField =
-    (i : ManualInsn) × BeginsWith i first × (length (spelling i) ≤ length (first ∷ rest))
+IsRefusedFor = Refused HasRanges spelling
 
 -- ---- decoding
 
@@ -170,9 +142,7 @@ as_other (Err fault) = Err fault
 
 -- a channel's instruction; or, if none has the first byte, one that no channel executes
 abbrev pub or_other : List ℕ → ChipDecoded → Decoded
-or_other bytes (Ok x) = Ok (Chip x.0, x.1)
-or_other bytes (Err (Unknown b)) = as_other (other_decoded b bytes)
-or_other bytes (Err fault) = Err fault
+or_other = or_more Chip (λ b bytes. as_other (other_decoded b bytes))
 
 -- the instruction at the front of the bytes
 abbrev pub decoded : List ℕ → Decoded

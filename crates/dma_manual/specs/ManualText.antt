@@ -100,15 +100,10 @@ manual_text StoreZeros = codes "DMASTZ"
 manual_text (AddHalfword a half negative) = add_name negative ++ address_name a ++ codes ", 0x" ++ half_digits half
 manual_text (LoopAgain c b) = codes "DMALPEND -" ++ decimal b ++ again_flag c
 
--- the name of DMALD for a kind of request
-abbrev pub load_if_name : Request → List ℕ
-load_if_name Single = codes "DMALDS"
-load_if_name Burst = codes "DMALDB"
-
--- the name of DMAST for a kind of request
-abbrev pub store_if_name : Request → List ℕ
-store_if_name Single = codes "DMASTS"
-store_if_name Burst = codes "DMASTB"
+-- the letter for a kind of request with which names end
+abbrev pub request_letter : Request → List ℕ
+request_letter Single = codes "S"
+request_letter Burst = codes "B"
 
 -- the name of a DMALPEND, which may be for a kind of request
 abbrev pub end_name : Option Request → List ℕ
@@ -142,8 +137,8 @@ go_flag true = codes ", ns"
 -- the line of an instruction that no channel executes
 abbrev pub other_text : OtherInsn → List ℕ
 other_text Kill = codes "DMAKILL"
-other_text (LdIf r) = load_if_name r
-other_text (StIf r) = store_if_name r
+other_text (LdIf r) = codes "DMALD" ++ request_letter r
+other_text (StIf r) = codes "DMAST" ++ request_letter r
 other_text (OfPeripheral a p) = action_name a ++ codes " P" ++ decimal p ++ action_flag a
 other_text (LpEndIf r c b) = end_name (Some r) ++ codes " " ++ counter_name c ++ (codes ", -" ++ decimal b)
 other_text (LoopAgainIf r b) = end_name (Some r) ++ codes " -" ++ decimal b

@@ -2,7 +2,7 @@
 
 ghost use Rattle.std.specs.Prelude.{◌≡◌, ℕ, ◌<◌, ◌≤◌, ◌∷◌, ◌++◌, length, drop, IfOk, IfErr, Ok};
 ghost use Rattle.dma_manual.specs.declared.insns.ManualInsn.{ManualInsn};
-ghost use Rattle.dma_manual.specs.Insns.{HasRanges, IsRefusedFor, IsSpelledAt, action_byte, again_if, again_if_byte, decoded, end_if, end_if_byte, go_byte, go_of, load_if_byte, of_peripheral, other_decoded, other_spelling, spelling, store_if_byte};
+ghost use Rattle.dma_manual.specs.Insns.{HasRanges, IsRefusedFor, IsSpelledAt, action_byte, again_if, decoded, end_if, end_if_byte, go_byte, go_of, of_peripheral, other_decoded, other_spelling, request_bits, spelling};
 
 use crate::insns::{Action, Awaited, Channel, ManualInsn, OtherInsn, Peripheral, Request};
 use byteorder::{ByteOrder, LittleEndian};
@@ -29,8 +29,8 @@ fn encode_other(insn: OtherInsn, out: &mut [u8; 6]) -> usize
 {
     match insn {
         OtherInsn::Kill => write_one(0x01, out),
-        OtherInsn::LdIf(request) => write_one(load_if_byte(request), out),
-        OtherInsn::StIf(request) => write_one(store_if_byte(request), out),
+        OtherInsn::LdIf(request) => write_one(0x05 + request_bits(request), out),
+        OtherInsn::StIf(request) => write_one(0x09 + request_bits(request), out),
         OtherInsn::OfPeripheral { action, peripheral } => {
             write_two(action_byte(action), peripheral.number() * 8, out)
         }
@@ -39,7 +39,9 @@ fn encode_other(insn: OtherInsn, out: &mut [u8; 6]) -> usize
             counter,
             back,
         } => write_two(end_if_byte(request, counter), back, out),
-        OtherInsn::LoopAgainIf { request, back } => write_two(again_if_byte(request), back, out),
+        OtherInsn::LoopAgainIf { request, back } => {
+            write_two(0x2d + request_bits(request), back, out)
+        }
         OtherInsn::Go {
             channel,
             address,
@@ -52,23 +54,14 @@ fn encode_other(insn: OtherInsn, out: &mut [u8; 6]) -> usize
     }
 }
 
-// Returns the byte of DMALDS or DMALDB.
-fn load_if_byte(request: Request) -> u8
-    ensures { result ≡ load_if_byte request }
+// Returns the bits of a byte that say for which kind of request an instruction is.
+fn request_bits(request: Request) -> u8
+    ensures value { result ≡ request_bits request }
+    ensures range { result ≤ 2 }
 {
     match request {
-        Request::Single => 0x05,
-        Request::Burst => 0x07,
-    }
-}
-
-// Returns the byte of DMASTS or DMASTB.
-fn store_if_byte(request: Request) -> u8
-    ensures { result ≡ store_if_byte request }
-{
-    match request {
-        Request::Single => 0x09,
-        Request::Burst => 0x0b,
+        Request::Single => 0,
+        Request::Burst => 2,
     }
 }
 
@@ -77,10 +70,8 @@ fn action_byte(action: Action) -> u8
     ensures { result ≡ action_byte action }
 {
     match action {
-        Action::Ld(Request::Single) => 0x25,
-        Action::Ld(Request::Burst) => 0x27,
-        Action::St(Request::Single) => 0x29,
-        Action::St(Request::Burst) => 0x2b,
+        Action::Ld(request) => 0x25 + request_bits(request),
+        Action::St(request) => 0x29 + request_bits(request),
         Action::Wait(Awaited::Single) => 0x30,
         Action::Wait(Awaited::Either) => 0x31,
         Action::Wait(Awaited::Burst) => 0x32,
@@ -92,22 +83,11 @@ fn action_byte(action: Action) -> u8
 fn end_if_byte(request: Request, counter: Counter) -> u8
     ensures { result ≡ end_if_byte request counter }
 {
-    match (request, counter) {
-        (Request::Single, Counter::Lc0) => 0x39,
-        (Request::Burst, Counter::Lc0) => 0x3b,
-        (Request::Single, Counter::Lc1) => 0x3d,
-        (Request::Burst, Counter::Lc1) => 0x3f,
-    }
-}
-
-// Returns the first byte of a DMALPENDS or DMALPENDB of a loop that DMALPFE begins.
-fn again_if_byte(request: Request) -> u8
-    ensures { result ≡ again_if_byte request }
-{
-    match request {
-        Request::Single => 0x2d,
-        Request::Burst => 0x2f,
-    }
+    let counted = match counter {
+        Counter::Lc0 => 0x39,
+        Counter::Lc1 => 0x3d,
+    };
+    counted + request_bits(request)
 }
 
 // Returns the first byte of DMAGO.

@@ -1,7 +1,7 @@
 //! The open loops, while a text is assembled.
 
 ghost use Rattle.std.specs.Prelude.{◌≡◌, ◌-◌, ◌≤◌};
-ghost use Rattle.dma_manual.specs.Assembled.{again_of, back_to, chosen, condition_of, end_of, free_counter, innermost, innermost_of, is_closed_by, is_free_or_closed, jump_of, slot, unclosed, with_loop};
+ghost use Rattle.dma_manual.specs.Assembled.{again_of, back_to, chosen, condition_of, end_of, ended_loop, free_counter, innermost, innermost_of, is_closed_by, is_free_or_closed, jump_of, slot, unclosed, with_loop};
 
 use crate::assembler::{AsmCause, Located, Place};
 use crate::insns::{ManualInsn, OtherInsn, Request};
@@ -182,43 +182,27 @@ impl Loops {
     pub fn closed(&self) -> Result<(), Located>
         ensures { result ≡ unclosed self.now }
     {
-        if let Some(
+        ended(self.lc0)?;
+        ended(self.lc1)?;
+        ended(self.endless)
+    }
+}
+
+// Succeeds unless a loop that has to be ended is open.
+fn ended(begun: Option<Open>) -> Result<(), Located>
+    ensures { result ≡ ended_loop begun }
+{
+    match begun {
+        Some(
             Open {
                 unnamed: Some(place),
                 ..
             },
-        ) = self.lc0
-        {
-            return Err(Located {
-                place,
-                cause: AsmCause::Open,
-            });
-        }
-        if let Some(
-            Open {
-                unnamed: Some(place),
-                ..
-            },
-        ) = self.lc1
-        {
-            return Err(Located {
-                place,
-                cause: AsmCause::Open,
-            });
-        }
-        if let Some(
-            Open {
-                unnamed: Some(place),
-                ..
-            },
-        ) = self.endless
-        {
-            return Err(Located {
-                place,
-                cause: AsmCause::Open,
-            });
-        }
-        Ok(())
+        ) => Err(Located {
+            place,
+            cause: AsmCause::Open,
+        }),
+        _ => Ok(()),
     }
 }
 

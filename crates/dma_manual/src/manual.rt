@@ -2,7 +2,7 @@
 
 ghost use Rattle.std.specs.Prelude.{◌≡◌, ◌++◌, ◌<◌, OnOk};
 ghost use Rattle.dma_insn.specs.ControlWord.{beat_bytes};
-ghost use Rattle.dma_manual.specs.ManualText.{action_flag, action_name, add_name, address_name, again_flag, cache_signals, control_text, counter_name, end_name, end_text, field_text, flag_text, go_flag, half_digits, insn_text, letter, load_if_name, manual_text, other_text, store_if_name};
+ghost use Rattle.dma_manual.specs.ManualText.{action_flag, action_name, add_name, address_name, again_flag, cache_signals, control_text, counter_name, end_name, end_text, field_text, flag_text, go_flag, half_digits, insn_text, letter, manual_text, other_text, request_letter};
 ghost use Rattle.dma_text.specs.Text.{Begins};
 
 use crate::insns::{Action, Awaited, ManualInsn, OtherInsn, Request};
@@ -135,8 +135,8 @@ impl Text for OtherInsn {
     fn push(&self, out: &mut Vec<u8>) -> Result<(), AllocError> {
         match *self {
             OtherInsn::Kill => "DMAKILL".push(out),
-            OtherInsn::LdIf(request) => load_if_name(request).push(out),
-            OtherInsn::StIf(request) => store_if_name(request).push(out),
+            OtherInsn::LdIf(request) => ("DMALD", request_letter(request)).push(out),
+            OtherInsn::StIf(request) => ("DMAST", request_letter(request)).push(out),
             OtherInsn::OfPeripheral { action, peripheral } => {
                 let number = peripheral.number();
                 (action_name(action), " P", number, action_flag(action)).push(out)
@@ -167,23 +167,13 @@ impl Text for OtherInsn {
     }
 }
 
-// Returns the name of DMALD for a kind of request.
-fn load_if_name(request: Request) -> &'static str
-    ensures { result.now ≡ load_if_name request }
+// Returns the letter for a kind of request with which names end.
+fn request_letter(request: Request) -> &'static str
+    ensures { result.now ≡ request_letter request }
 {
     match request {
-        Request::Single => "DMALDS",
-        Request::Burst => "DMALDB",
-    }
-}
-
-// Returns the name of DMAST for a kind of request.
-fn store_if_name(request: Request) -> &'static str
-    ensures { result.now ≡ store_if_name request }
-{
-    match request {
-        Request::Single => "DMASTS",
-        Request::Burst => "DMASTB",
+        Request::Single => "S",
+        Request::Burst => "B",
     }
 }
 

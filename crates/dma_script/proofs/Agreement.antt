@@ -1,15 +1,15 @@
 -- What words make is what their reader reads, one after another.
-use Rattle.std.proofs.Common.{◌≡◌, ℕ, Bool, true, false, ◌&&◌, nat_le, if◌then◌else◌, List, [], ◌∷◌, ◌++◌, map, refl, ap, ◌∙◌, sym, Option, Some, None, Result}
+use Rattle.std.proofs.Common.{◌≡◌, ℕ, true, false, ◌&&◌, nat_le, if◌then◌else◌, List, [], ◌∷◌, ◌++◌, map, refl, ap, ◌∙◌, sym, Option, Some, None, Result}
 use Rattle.std.proofs.Common.{Ok, Err, is_some, unwrap_or, codes}
 use Rattle.std.specs.{Option.ok_or, Option.option_map, Option.option_or, Str.bytes_eq}
 use Rattle.dma_mem.specs.declared.marks.MarkKind.TheVariants.{Reading, Writing}
-use Rattle.dma_mem.specs.{declared.marks.MarkKind.MarkKind, Limits.last_channel}
+use Rattle.dma_mem.specs.{Limits.last_channel}
 use Rattle.dma_script.specs.Arguments.{any_list, any_number, any_segment, behind, bytes, bytes_at, digits, event, fixed, first_reported, kind, list, makes}
 use Rattle.dma_script.specs.Arguments.{meaning, most_line_steps, number, number_or_zero, number_within, Operand, operands, or_empty, ranged, segment, Shape}
 use Rattle.dma_script.specs.Arguments.{source, Spelled, spelled, steps, unless, where_not, within, words_cause}
-use Rattle.dma_script.specs.inner.Reading.{LineRead, begins, byte_from, ended, list_from, number_from, read, rest_of, skipped, statement_from, unread}
+use Rattle.dma_script.specs.inner.Reading.{LineRead, begins, ended, event_from, kind_from, read, rest_of, source_from, statement_from, unread}
 use Rattle.dma_script.specs.{Words.bytes_in, Words.list_of, Words.segment_of, Statements.later_line, Statements.statement, Race.job, Race.job_line}
-use Rattle.dma_script.specs.{Race.where_holds, Causes.cause_reported, declared.fault.Cause.Cause, declared.transfer_line.Origin.Origin}
+use Rattle.dma_script.specs.{Race.where_holds, Causes.cause_reported, declared.fault.Cause.Cause}
 use Rattle.dma_script.specs.{declared.race.JobLine.JobLine, declared.statements.Keyword.Keyword, declared.statements.Statement.Statement}
 use Rattle.dma_text.specs.Results.{◌>>=◌}
 use Rattle.dma_script.specs.declared.fault.Cause.TheVariants as causes
@@ -108,19 +108,6 @@ push_hex f r (word ∷ words) found =
     ∙ push_form f r cause (behind (map digits words) found)
     ∙ ap (after f r) (behind_more (digits word) (map digits words) found)
 
--- what is read of an event, a source and a kind, given whether the next word is their text
-abbrev event_read : Bool → LineRead → Option ℕ × LineRead
-event_read is line = let found = byte_from (skipped line) in if is then (Some found.0, found.1) else (None, line)
-
-abbrev source_read : Bool → LineRead → Origin × LineRead
-source_read is line =
-    let addr = number_from (skipped line) in
-    let places = list_from line in
-    if is then (origins.Place addr.0, addr.1) else (origins.List places.0, places.1)
-
-abbrev kind_read : Bool → Bool → LineRead → MarkKind × LineRead
-kind_read reads writes line = if reads then (Reading, skipped line) else (Writing, if writes then skipped line else record line { misses = true })
-
 -- what is read then
 abbrev then_read : {A B : Type 0} → (B → Shape A) → B × LineRead → Result A Cause
 then_read next found = whole (read (next found.0) found.1)
@@ -139,15 +126,15 @@ wrong (fixed text rest) f r words =
     elim (begins text words) as (λ is. whole (read rest (if is then missing f r (rest_of words) else missing f r words)) ≡ Err causes.Words)
     [ true ↦ wrong rest f r (rest_of words) | false ↦ wrong rest f r words ]
 wrong (event name next) f r words =
-    elim (begins name words) as (λ is. then_read next (event_read is (missing f r words)) ≡ Err causes.Words)
+    elim (begins name words) as (λ is. then_read next (event_from is (missing f r words)) ≡ Err causes.Words)
     [ true ↦ wrong (next _) _ _ _ | false ↦ wrong (next None) f r words ]
 wrong (source next) f r words =
-    elim (begins (codes "fill") words) as (λ is. then_read next (source_read is (missing f r words)) ≡ Err causes.Words)
+    elim (begins (codes "fill") words) as (λ is. then_read next (source_from is (missing f r words)) ≡ Err causes.Words)
     [ true ↦ wrong (next _) _ _ _ | false ↦ wrong (next _) _ _ _ ]
 wrong (kind next) f r words =
-    elim (begins (codes "read") words) as (λ reads. then_read next (kind_read reads (begins (codes "write") words) (missing f r words)) ≡ Err causes.Words) [
+    elim (begins (codes "read") words) as (λ reads. then_read next (kind_from reads (begins (codes "write") words) (missing f r words)) ≡ Err causes.Words) [
       | true ↦ wrong (next Reading) f r _
-      | false ↦ elim (begins (codes "write") words) as (λ writes. then_read next (kind_read false writes (missing f r words)) ≡ Err causes.Words)
+      | false ↦ elim (begins (codes "write") words) as (λ writes. then_read next (kind_from false writes (missing f r words)) ≡ Err causes.Words)
           [ true ↦ wrong (next Writing) f r _ | false ↦ wrong (next Writing) f r words ]
     ]
 
@@ -179,14 +166,14 @@ agrees (fixed text rest) f r (word ∷ words) =
 agrees (event name next) f r [] = agrees (next None) f r []
 agrees (event name next) f r (word ∷ []) =
     elim (bytes_eq word name) as
-    (λ is. then_read next (event_read is (so_far f r (word ∷ []))) ≡ after f r (if is then None else spelled (next None) (word ∷ []))) [
+    (λ is. then_read next (event_from is (so_far f r (word ∷ []))) ≡ after f r (if is then None else spelled (next None) (word ∷ []))) [
       | true ↦ wrong (next _) _ _ _
       | false ↦ agrees (next None) f r (word ∷ [])
     ]
 agrees (event name next) f r (word ∷ e ∷ words) =
     let number = number_within 0 255 e in
     elim (bytes_eq word name) as
-    (λ is. then_read next (event_read is (so_far f r (word ∷ e ∷ words))) ≡ after f r
+    (λ is. then_read next (event_from is (so_far f r (word ∷ e ∷ words))) ≡ after f r
     (if is then behind (ranged 0 255 causes.Range e ∷ []) (spelled (next (Some number)) words) else spelled (next None) (word ∷ e ∷ words))) [
       | true ↦ agrees (next (Some number)) _ _ words ∙ push f r (ranged 0 255 causes.Range e) _
       | false ↦ agrees (next None) f r (word ∷ e ∷ words)
@@ -195,7 +182,7 @@ agrees (source next) f r [] = wrong (next _) _ _ _
 agrees (source next) f r (word ∷ []) =
     let places = unwrap_or (list_of word) [] in
     elim (bytes_eq word (codes "fill")) as
-    (λ is. then_read next (source_read is (so_far f r (word ∷ []))) ≡ after f r
+    (λ is. then_read next (source_from is (so_far f r (word ∷ []))) ≡ after f r
     (if is then None else behind (any_list word ∷ []) (spelled (next (origins.List places)) []))) [
       | true ↦ wrong (next _) _ _ _
       | false ↦ agrees (next (origins.List places)) _ _ [] ∙ push_form f r (any_list word).form _
@@ -204,7 +191,7 @@ agrees (source next) f r (word ∷ addr ∷ words) =
     let places = unwrap_or (list_of word) [] in
     let place = number_or_zero addr in
     elim (bytes_eq word (codes "fill")) as
-    (λ is. then_read next (source_read is (so_far f r (word ∷ addr ∷ words))) ≡ after f r
+    (λ is. then_read next (source_from is (so_far f r (word ∷ addr ∷ words))) ≡ after f r
     (if is then behind (any_number addr ∷ []) (spelled (next (origins.Place place)) words) else behind (any_list word ∷ [])
     (spelled (next (origins.List places)) (addr ∷ words)))) [
       | true ↦ agrees (next (origins.Place place)) _ _ words ∙ push_form f r (any_number addr).form _
@@ -215,10 +202,10 @@ agrees (kind next) f r (word ∷ words) =
     let is_write = bytes_eq word (codes "write") in
     let at = so_far f r (word ∷ words) in
     elim (bytes_eq word (codes "read")) as
-    (λ reads. then_read next (kind_read reads is_write at) ≡ after f r
+    (λ reads. then_read next (kind_from reads is_write at) ≡ after f r
     (if reads then spelled (next Reading) words else (if is_write then spelled (next Writing) words else None))) [
       | true ↦ agrees (next Reading) f r words
-      | false ↦ elim is_write as (λ writes. then_read next (kind_read false writes at) ≡ after f r (if writes then spelled (next Writing) words else None))
+      | false ↦ elim is_write as (λ writes. then_read next (kind_from false writes at) ≡ after f r (if writes then spelled (next Writing) words else None))
           [ true ↦ agrees (next Writing) f r words | false ↦ wrong (next Writing) f r (word ∷ words) ]
     ]
 

@@ -1,7 +1,7 @@
 -- The bytes of hexadecimal words, pair by pair.
-use Rattle.std.proofs.Common.{◌≡◌, ℕ, ◌<◌, ◌≤◌, ◌+◌, ◌*◌, inl, inr, true, false, not, ◌==◌, eqb, if◌then◌else◌, List, [], ◌∷◌, ◌++◌, length, drop, filter}
-use Rattle.std.proofs.Common.{get_or, slice_index, refl, ap, ◌∙◌, sym, arith, append_assoc, append-nil, Option, Some, None, Result, Ok, Err}
-use Rattle.std.proofs.{lemmas.Bool.cases_Bool, lemmas.Bool.eqb-true, lemmas.Bool.false_from_ne_true, lemmas.Bool.or_cases, lemmas.Bool.Decides.nat_tests}
+use Rattle.std.proofs.Common.{◌≡◌, ℕ, ◌≤◌, ◌+◌, ◌*◌, inl, inr, true, false, not, ◌==◌, eqb, List, [], ◌∷◌, ◌++◌, length, drop, filter}
+use Rattle.std.proofs.Common.{get_or, refl, ap, ◌∙◌, sym, arith, append_assoc, append-nil, Option, Some, None, Result, Ok, Err}
+use Rattle.std.proofs.{lemmas.Bool.eqb-true, lemmas.Bool.false_from_ne_true, lemmas.Bool.or_cases, lemmas.Bool.Decides.nat_tests}
 use Rattle.std.specs.{List.onto_first, List.slice_split, Option.ok_or, Option.option_map, Option.option_and_then}
 use Rattle.dma_text.specs.{Lines.is_blank, Results.◌>>=◌}
 use Rattle.dma_script.specs.Words.{bytes_in, hex_digit_of, hex_pair_of, words_of}
@@ -33,10 +33,6 @@ bytes_after_word before word words =
           [ Err cause ↦ refl | Ok rest ↦ ap Ok (sym (append_assoc before front rest)) ]
     ]
 
--- No bytes before.
-pub bytes_after_none : (words : List (List ℕ)) → bytes_after [] words ≡ bytes_at words
-bytes_after_none words = elim (bytes_at words) as (λ r. (r >>= (λ more. Ok ([] ++ more))) ≡ r) [ Err cause ↦ refl | Ok more ↦ refl ]
-
 -- ---- a pair of digits
 
 joined : (before : List ℕ) (b : ℕ) (rest : Option (List ℕ))
@@ -46,8 +42,8 @@ joined before b (Some more) = ap Ok (sym (append_assoc before (b ∷ []) more))
 
 pair_in : (a b byte : ℕ) (before word : List ℕ) (high low : Option ℕ) → hex_digit_of a ≡ high → hex_digit_of b ≡ low
     → option_and_then (λ h. option_map (λ l. 16 * h + l) low) high ≡ Some byte → hex_after before (a ∷ b ∷ word) ≡ hex_after (before ++ byte ∷ []) word
-pair_in a b byte before word None low x y is = absurd (let bad : None ≡ Some byte = is in cc)
-pair_in a b byte before word (Some h) None x y is = absurd (let bad : None ≡ Some byte = is in cc)
+pair_in a b byte before word None low x y is = absurd cc
+pair_in a b byte before word (Some h) None x y is = absurd cc
 pair_in a b byte before word (Some h) (Some l) x y is = let same : 16 * h + l ≡ byte = cc in rw (x, y, same) (joined before byte (bytes_in word))
 
 -- The first part after a pair, which may be empty.
@@ -81,8 +77,8 @@ digit_is_no_blank b digit is = false_from_ne_true (is_blank b) (λ blank. absurd
 
 no_blanks : (a b byte : ℕ) (high low : Option ℕ) → hex_digit_of a ≡ high → hex_digit_of b ≡ low
     → option_and_then (λ h. option_map (λ l. 16 * h + l) low) high ≡ Some byte → (is_blank a ≡ false) × (is_blank b ≡ false)
-no_blanks a b byte None low x y is = absurd (let bad : None ≡ Some byte = is in cc)
-no_blanks a b byte (Some h) None x y is = absurd (let bad : None ≡ Some byte = is in cc)
+no_blanks a b byte None low x y is = absurd cc
+no_blanks a b byte (Some h) None x y is = absurd cc
 no_blanks a b byte (Some h) (Some l) x y is = (digit_is_no_blank a h x, digit_is_no_blank b l y)
 
 -- One more pair.
@@ -93,39 +89,3 @@ bytes_after_pair before (a ∷ []) byte two is = absurd (omega arith)
 bytes_after_pair before (a ∷ b ∷ rest) byte two is =
     let plain = no_blanks a b byte _ _ refl refl is in
     rw (plain.0, plain.1) (sym (parts_after a b byte before (slice_split is_blank rest) is))
-
--- ---- faults
-
-none_in : (a b : ℕ) (word : List ℕ) (high low : Option ℕ) → hex_digit_of a ≡ high → hex_digit_of b ≡ low
-    → option_and_then (λ h. option_map (λ l. 16 * h + l) low) high ≡ None → bytes_in (a ∷ b ∷ word) ≡ None
-none_in a b word None low x y is = rw x refl
-none_in a b word (Some h) None x y is = rw (x, y) refl
-none_in a b word (Some h) (Some l) x y is = absurd (let bad : Some (16 * h + l) ≡ None = is in cc)
-
-no_part : (a b : ℕ) (before part : List ℕ) (parts : List (List ℕ)) → hex_pair_of a b ≡ None → bytes_after before (full ((a ∷ b ∷ part) ∷ parts)) ≡ Err Hex
-no_part a b before part parts is =
-    rw (some_word a (b ∷ part))
-    (ap (λ o. (ok_or o Hex >>= (λ front. bytes_at (full parts) >>= (λ rest. Ok (front ++ rest)))) >>= (λ more. Ok (before ++ more)))
-    (none_in a b part _ _ refl refl is))
-
-no_parts : (a b : ℕ) (before : List ℕ) (parts : List (List ℕ)) → hex_pair_of a b ≡ None
-    → bytes_after before (full (onto_first a (onto_first b parts))) ≡ Err Hex
-no_parts a b before [] is = no_part a b before [] [] is
-no_parts a b before (part ∷ parts) is = no_part a b before part parts is
-
--- Two bytes that are no pair, the first no blank.
-pub bytes_after_fault : (before rest : List ℕ) → 2 ≤ length rest → is_blank (get_or rest 0 0) ≡ false → hex_pair_of (get_or rest 0 0) (get_or rest 1 0) ≡ None
-    → bytes_after before (words_of rest) ≡ Err Hex
-bytes_after_fault before [] two plain is = absurd (omega arith)
-bytes_after_fault before (a ∷ []) two plain is = absurd (omega arith)
-bytes_after_fault before (a ∷ b ∷ rest) two plain is = elim (cases_Bool (is_blank b)) [
-  | inl blank ↦ rw (plain, blank) refl
-  | inr other ↦ rw (plain, other) (no_parts a b before (slice_split is_blank rest) is)
-]
-
--- The end of a line, with no byte left or one that is no blank.
-pub bytes_after_end : (before rest : List ℕ) → length rest < 2 → (0 < length rest → is_blank (slice_index rest 0) ≡ false)
-    → bytes_after before (words_of rest) ≡ (if length rest == 0 then Ok before else Err Hex)
-bytes_after_end before [] two plain = ap Ok (append-nil before)
-bytes_after_end before (a ∷ []) two plain = let is : is_blank a ≡ false = plain (omega arith) in rw is refl
-bytes_after_end before (a ∷ b ∷ rest) two plain = absurd (omega arith)

@@ -1,9 +1,9 @@
 -- Pairs of digits, one after another.
 use Rattle.std.proofs.Common.{◌≡◌, ℕ, ◌≤◌, ◌+◌, ◌*◌, inl, inr, ◌||◌, Option, Some, None, List, [], ◌∷◌, ◌++◌, length, drop, get_or, refl, ap, ◌∙◌, sym, arith}
-use Rattle.std.proofs.Common.{append_assoc, append-nil, true, false, eqb, eq-eqb, Result, Ok, Err}
+use Rattle.std.proofs.Common.{append_assoc, true, false, eqb, eq-eqb, Result, Ok, Err}
 use Rattle.std.proofs.lemmas.Bool.{eqb-true, ne_eqb, false_from_ne_true, or_cases}
 use Rattle.std.specs.Option.{option_and_then, option_map}
-use Rattle.dma_script.specs.Pairs.{hex_fault, is_gap, pair_of, pairs_from}
+use Rattle.dma_script.specs.Pairs.{is_gap, pair_of, pairs_from}
 use Rattle.dma_script.specs.{Words.hex_digit_of, Words.hex_pair_of, declared.fault.Fault.Fault, inner.Digits.pairs_after}
 use Rattle.dma_text.specs.Results.{◌>>=◌}
 
@@ -44,14 +44,9 @@ no_gap a b byte is = false_from_ne_true (is_gap a)
 -- What two digits spell.
 pair_spelled : (line : ℕ) (high low : Option ℕ) (byte : ℕ) → option_and_then (λ h. option_map (λ l. 16 * h + l) low) high ≡ Some byte
     → pair_of line high low ≡ Ok byte
-pair_spelled line None low byte is = absurd (let bad : None ≡ Some byte = is in cc)
-pair_spelled line (Some h) None byte is = absurd (let bad : None ≡ Some byte = is in cc)
+pair_spelled line None low byte is = absurd cc
+pair_spelled line (Some h) None byte is = absurd cc
 pair_spelled line (Some h) (Some l) byte is = let same : 16 * h + l ≡ byte = cc in ap Ok same
-
-pair_refused : (line : ℕ) (high low : Option ℕ) → option_and_then (λ h. option_map (λ l. 16 * h + l) low) high ≡ None
-    → pair_of line high low ≡ Err (hex_fault line)
-pair_refused line (Some h) (Some l) is = absurd (let bad : Some (16 * h + l) ≡ None = is in cc)
-pair_refused line _ _ is = refl
 
 -- One more pair.
 pub pairs_after_pair : (before : List ℕ) (line byte : ℕ) (rest : List ℕ) → 2 ≤ length rest → hex_pair_of (get_or rest 0 0) (get_or rest 1 0) ≡ Some byte
@@ -60,13 +55,6 @@ pairs_after_pair before line byte [] two is = absurd (omega arith)
 pairs_after_pair before line byte (a ∷ []) two is = absurd (omega arith)
 pairs_after_pair before line byte (a ∷ b ∷ rest) two is =
     rw (no_gap a b byte is, pair_spelled line (hex_digit_of a) (hex_digit_of b) byte is) (joined before byte (pairs_from line rest))
-
--- Two bytes that are no pair, the first of them no gap.
-pub pairs_after_fault : (before : List ℕ) (line : ℕ) (rest : List ℕ) → 2 ≤ length rest → is_gap (get_or rest 0 0) ≡ false
-    → hex_pair_of (get_or rest 0 0) (get_or rest 1 0) ≡ None → pairs_after before line rest ≡ Err (hex_fault line)
-pairs_after_fault before line [] two gap is = absurd (omega arith)
-pairs_after_fault before line (a ∷ []) two gap is = absurd (omega arith)
-pairs_after_fault before line (a ∷ b ∷ rest) two gap is = rw (gap, pair_refused line (hex_digit_of a) (hex_digit_of b) is) refl
 
 -- A space changes nothing.
 pub pairs_past_space : (line : ℕ) (rest : List ℕ) → 1 ≤ length rest → get_or rest 0 0 ≡ 32 → pairs_from line (drop 1 rest) ≡ pairs_from line rest
@@ -78,15 +66,3 @@ pairs_past_space line (a ∷ b ∷ rest) one is = rw is refl
 pub pairs_after_same : (before : List ℕ) (line : ℕ) (rest shorter : List ℕ) → pairs_from line shorter ≡ pairs_from line rest
     → pairs_after before line shorter ≡ pairs_after before line rest
 pairs_after_same before line rest shorter same = ap (λ read. read >>= (λ more. Ok (before ++ more))) same
-
--- A byte that is alone at the end.
-pub pairs_after_alone : (before : List ℕ) (line : ℕ) (rest : List ℕ) → length rest ≡ 1 → is_gap (get_or rest 0 0) ≡ false
-    → pairs_after before line rest ≡ Err (hex_fault line)
-pairs_after_alone before line [] one gap = absurd (omega arith)
-pairs_after_alone before line (a ∷ []) one gap = rw gap refl
-pairs_after_alone before line (a ∷ b ∷ rest) one gap = absurd (omega arith)
-
--- Nothing is left.
-pub pairs_after_none : (before : List ℕ) (line : ℕ) (rest : List ℕ) → length rest ≡ 0 → pairs_after before line rest ≡ Ok before
-pairs_after_none before line [] none = ap Ok (append-nil before)
-pairs_after_none before line (a ∷ rest) none = absurd (omega arith)

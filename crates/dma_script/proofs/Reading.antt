@@ -2,12 +2,12 @@
 use Rattle.std.proofs.Common.{◌≡◌, ℕ, ◌<◌, ◌≤◌, ◌⊎◌, inl, inr, refl, ap, ◌∙◌, sym, List, [], ◌∷◌, ◌++◌, Some, Result, Ok, Err}
 use Rattle.std.proofs.lemmas.Bool.{le-leb, lt-leb}
 use Rattle.dma_text.specs.Results.{◌>>=◌}
-use Rattle.dma_script.specs.inner.Reading.{LineRead, added_to, byte_from, ended, line_added, number_from, statement_added, statement_from, transfer_from}
+use Rattle.dma_script.specs.inner.Reading.{LineRead, added_to, ended, line_added, number_from, read as read_words, statement_added, statement_from, transfer_from}
 use Rattle.dma_script.specs.inner.Reading.{unread, within_from}
-use Rattle.dma_script.specs.{Lines.Gives, Arguments.makes, Arguments.meaning, Plan.transfer, Plan.transfer_line, Race.RaceRead, Race.job_line}
-use Rattle.dma_script.specs.{Race.line_beside_go, Statements.later_line, Statements.memory, Statements.next_line, declared.fault.Cause.Cause}
+use Rattle.dma_script.specs.{Lines.Gives, Arguments.byte, Arguments.makes, Arguments.meaning, Plan.transfer, Plan.transfer_line, Race.job_line}
+use Rattle.dma_script.specs.{Statements.later_line, Statements.memory, Statements.next_line, declared.fault.Cause.Cause}
 use Rattle.dma_script.specs.{declared.fault.ReadError.ReadError, declared.fault.ReadError.TheVariants.Fault, declared.fault.ReadError.TheVariants.NoMemory}
-use Rattle.dma_script.specs.{declared.transfer_line.TransferLine.TransferLine, declared.race.RaceKeyword.TheVariants.Line, declared.statements.Keyword.Keyword}
+use Rattle.dma_script.specs.{declared.transfer_line.TransferLine.TransferLine, declared.statements.Keyword.Keyword}
 use Rattle.dma_script.specs.{declared.statements.Keyword.TheVariants.Submit, declared.statements.RunScript.RunScript, declared.statements.Statement.Statement}
 use Rattle.dma_mem.specs.Limits.{largest_size, last_channel, most_channels}
 use Rattle.dma_script.proofs.Agreement.{job_agrees, job_of, statement_agrees, whole, words_agree}
@@ -15,8 +15,8 @@ use Rattle.dma_script.specs.declared.fault.Cause.TheVariants as causes
 use Rattle.dma_script.specs.declared.statements.Statement.TheVariants as statements
 
 -- A channel and a transfer, one after the other.
-pub submit_read : (line between after : LineRead) (ch : ℕ) (read : TransferLine) → (ch, between) ≡ byte_from line → (read, after) ≡ transfer_from between
-    → statement_from Submit line ≡ Ok (statements.Submit ch read, after)
+pub submit_read : (line between after : LineRead) (ch : ℕ) (read : TransferLine) → (ch, between) ≡ read_words (byte makes) line
+    → (read, after) ≡ transfer_from between → statement_from Submit line ≡ Ok (statements.Submit ch read, after)
 submit_read line between after ch read p q =
     ap (λ (first : ℕ × LineRead). let next = transfer_from first.1 in Ok (statements.Submit first.0 next.0, next.1)) (sym p)
     ∙ ap (λ (next : TransferLine × LineRead). Ok (statements.Submit ch next.0, next.1)) (sym q)
@@ -37,7 +37,7 @@ line_read_at : (keyword : Keyword) (words : List (List ℕ)) (before after : Lis
     (read : Result (Statement × LineRead) Cause) → statement_from keyword (unread words) ≡ read → (read >>= (λ r. added_to before r)) ≡ Ok (after, line)
     → done ≡ ended line
     → line_added keyword before words ≡ (done >>= (λ u. Ok after))
-line_read_at keyword words before after line done (Err cause) from e is = absurd (let bad : Err cause ≡ Ok (after, line) = e in cc)
+line_read_at keyword words before after line done (Err cause) from e is = absurd cc
 line_read_at keyword words before after line done (Ok read) from e is =
     let same : (before ++ read.0 ∷ [], read.1) ≡ (after, line) = cc in
     let first : before ++ read.0 ∷ [] ≡ after = ap (λ (p : List Statement × LineRead). p.0) same in
@@ -72,25 +72,6 @@ pub script_given : (keyword : Keyword) (words : List (List ℕ)) (script : RunSc
 script_given keyword words script after (Ok u) gives = script_read keyword words script (Ok after) gives
 script_given keyword words script after (Err (Fault cause)) gives = script_read keyword words script (Err cause) gives
 script_given keyword words script after (Err NoMemory) gives = tt
-
-after_go_at : (keyword : Keyword) (words : List (List ℕ)) (race : RaceRead) (lines : List Statement) (after : Result (List Statement) Cause)
-    (read : Result Statement Cause) → later_line keyword words ≡ read → (read >>= (λ statement. Ok (lines ++ statement ∷ []))) ≡ after
-    → line_beside_go (Some lines) race (Line keyword) words ≡ (after >>= (λ statements. Ok (record race { after = Some statements })))
-after_go_at keyword words race lines after (Err cause) from e = rw (from, ← e) refl
-after_go_at keyword words race lines after (Ok statement) from e = rw (from, ← e) refl
-
-after_go_read : (keyword : Keyword) (words : List (List ℕ)) (race : RaceRead) (lines : List Statement) (after : Result (List Statement) Cause)
-    → line_added keyword lines words ≡ after
-    → line_beside_go (Some lines) race (Line keyword) words ≡ (after >>= (λ statements. Ok (record race { after = Some statements })))
-after_go_read keyword words race lines after e = after_go_at keyword words race lines after (later_line keyword words) refl e
-
--- A race script and the line that was added behind its `go`.
-pub after_go_given : (keyword : Keyword) (words : List (List ℕ)) (race : RaceRead) (lines after : List Statement) (result : Result (Unit {0}) (ReadError Cause))
-    → Gives (λ _. after) result (line_added keyword lines words)
-    → Gives (λ _. record race { after = Some after }) result (line_beside_go (Some lines) race (Line keyword) words)
-after_go_given keyword words race lines after (Ok u) gives = after_go_read keyword words race lines (Ok after) gives
-after_go_given keyword words race lines after (Err (Fault cause)) gives = after_go_read keyword words race lines (Err cause) gives
-after_go_given keyword words race lines after (Err NoMemory) gives = tt
 
 -- a script of a size and channels
 abbrev pub script_of : ℕ → ℕ → RunScript

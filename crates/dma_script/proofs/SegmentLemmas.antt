@@ -128,18 +128,25 @@ prefix_no stop (a ∷ b ∷ w) plain = elim (eqb a stop) as (λ e. starts_with n
 abbrev read_before : ℕ → List ℕ → Option (ℕ × Option (List ℕ))
 read_before stop word = option_map (λ n. (n, behind stop word)) (number_of (front stop word))
 
+differs : (stop c b : ℕ) → digit_value stop ≡ 36 → digit_value c < 36 → eqb c b ≡ true → eqb b stop ≡ false
+differs stop c b other digit is =
+    ne_eqb b stop (λ e. let bad : digit_value c ≡ 36 = subst (λ c. digit_value c ≡ 36) (sym (eqb-true c b is ∙ e)) other in omega (arith, digit))
+
+-- 0x has no separator.
+no_prefix : (stop a b : ℕ) (ds : List ℕ) → digit_value stop ≡ 36 → starts_with nat_eq (a ∷ b ∷ ds) (48 ∷ 120 ∷ []) ≡ true
+    → (eqb a stop ≡ false) × (eqb b stop ≡ false)
+no_prefix stop a b ds other hex =
+    let first = and_parts (eqb 48 a) _ hex in
+    let second = and_parts (eqb 120 b) true first.1 in
+    (differs stop 48 a other (omega arith) first.0, differs stop 120 b other (omega arith) second.0)
+
 hex_before : (stop : ℕ) (word : List ℕ) → digit_value stop ≡ 36 → starts_with nat_eq word (48 ∷ 120 ∷ []) ≡ true
     → read_before stop word ≡ digits_before 16 stop (drop 2 word)
 hex_before stop [] other hex = absurd (false≢true hex)
 hex_before stop (a ∷ []) other hex = absurd (false≢true (sym (and_right (eqb 48 a) false refl) ∙ hex))
 hex_before stop (a ∷ b ∷ ds) other hex =
-    let first = and_parts (eqb 48 a) _ hex in
-    let second = and_parts (eqb 120 b) true first.1 in
-    let no_a : a ≡ stop → ⊥ = λ e. let bad : digit_value 48 ≡ 36 = subst (λ c. digit_value c ≡ 36) (sym (eqb-true 48 a first.0 ∙ e)) other in
-    omega (arith, bad) in
-    let no_b : b ≡ stop → ⊥ = λ e. let bad : digit_value 120 ≡ 36 = subst (λ c. digit_value c ≡ 36) (sym (eqb-true 120 b second.0 ∙ e)) other in
-    omega (arith, bad) in
-    rw (ne_eqb a stop no_a, ne_eqb b stop no_b, hex) refl
+    let plain = no_prefix stop a b ds other hex in
+    rw (plain.0, plain.1, hex) refl
 
 -- It is read by its base.
 number_is : (stop : ℕ) (word : List ℕ) → digit_value stop ≡ 36 → number_before stop word ≡ read_before stop word
@@ -156,7 +163,7 @@ number_is stop word other =
 none_front : (stop : ℕ) (w : List ℕ) → behind stop w ≡ None → front stop w ≡ w
 none_front stop [] none = refl
 none_front stop (b ∷ w) none = elim (eqb b stop) as (λ e. cond e (Some w) (behind stop w) ≡ None → cond e [] (b ∷ front stop w) ≡ b ∷ w) [
-  | true ↦ λ none. absurd (let bad : Some w ≡ None = none in cc)
+  | true ↦ λ none. absurd cc
   | false ↦ λ none. ap (λ l. b ∷ l) (none_front stop w none)
 ] none
 
@@ -182,13 +189,8 @@ hex_none : (stop : ℕ) (w : List ℕ) (n : ℕ) → digit_value stop ≡ 36 →
 hex_none stop [] n other hex is = absurd (false≢true hex)
 hex_none stop (a ∷ []) n other hex is = absurd (false≢true (sym (and_right (eqb 48 a) false refl) ∙ hex))
 hex_none stop (a ∷ b ∷ ds) n other hex is =
-    let first = and_parts (eqb 48 a) _ hex in
-    let second = and_parts (eqb 120 b) true first.1 in
-    let no_a : a ≡ stop → ⊥ = λ e. let bad : digit_value 48 ≡ 36 = subst (λ c. digit_value c ≡ 36) (sym (eqb-true 48 a first.0 ∙ e)) other in
-    omega (arith, bad) in
-    let no_b : b ≡ stop → ⊥ = λ e. let bad : digit_value 120 ≡ 36 = subst (λ c. digit_value c ≡ 36) (sym (eqb-true 120 b second.0 ∙ e)) other in
-    omega (arith, bad) in
-    rw (ne_eqb a stop no_a, ne_eqb b stop no_b) (digits_none stop 16 ds other (omega arith) (number_digits 16 ds n is))
+    let plain = no_prefix stop a b ds other hex in
+    rw (plain.0, plain.1) (digits_none stop 16 ds other (omega arith) (number_digits 16 ds n is))
 
 -- A number has no separator.
 number_none : (stop : ℕ) (w : List ℕ) (n : ℕ) → digit_value stop ≡ 36 → number_of w ≡ Some n → behind stop w ≡ None
@@ -224,7 +226,7 @@ record Found (stop : ℕ) (w rest : List ℕ) : Type 0 where
   is : rest ≡ drop (suc place) w
 
 found : (stop : ℕ) (w rest : List ℕ) → behind stop w ≡ Some rest → Found stop w rest
-found stop [] rest e = absurd (let bad : None ≡ Some rest = e in cc)
+found stop [] rest e = absurd cc
 found stop (b ∷ w) rest e = elim (eqb b stop) as (λ t. eqb b stop ≡ t → cond t (Some w) (behind stop w) ≡ Some rest → Found stop (b ∷ w) rest) [
   | true ↦ λ t e. record {
     place = 0;
@@ -298,7 +300,7 @@ nested (b ∷ w) none = elim (eqb b 43) as (λ t. eqb b 43 ≡ t → behind 44 (
       let comma : eqb b 44 ≡ false = rw (eqb-true b 43 t) refl in
       record { front_is = rw (comma, t) refl; behind_is = rw (comma, t) refl; rest_is = rw (comma, t) refl }
   | false ↦ λ t none. elim (eqb b 44) as (λ u. eqb b 44 ≡ u → cond u (Some (front 43 w)) (behind 44 (front 43 w)) ≡ None → Nested (b ∷ w)) [
-    | true ↦ λ u bad. absurd (let wrong : Some (front 43 w) ≡ None = bad in cc)
+    | true ↦ λ u bad. absurd cc
     | false ↦ λ u none.
         let rest = nested w none in
         record { front_is = rw (u, t) (ap (λ l. b ∷ l) rest.front_is); behind_is = rw (u, t) rest.behind_is; rest_is = rw (u, t) rest.rest_is }
@@ -309,7 +311,7 @@ nested (b ∷ w) none = elim (eqb b 43) as (λ t. eqb b 43 ≡ t → behind 44 (
 inner : (w rest : List ℕ) → behind 43 (front 44 w) ≡ Some rest → front 43 (front 44 w) ≡ front 43 w
 inner [] rest e = refl
 inner (b ∷ w) rest e = elim (eqb b 44) as (λ u. behind 43 (cond u [] (b ∷ front 44 w)) ≡ Some rest → front 43 (cond u [] (b ∷ front 44 w)) ≡ front 43 (b ∷ w)) [
-  | true ↦ λ bad. absurd (let wrong : None ≡ Some rest = bad in cc)
+  | true ↦ λ bad. absurd cc
   | false ↦ λ e. elim (eqb b 43) as
       (λ t. cond t (Some (front 44 w)) (behind 43 (front 44 w)) ≡ Some rest → cond t [] (b ∷ front 43 (front 44 w)) ≡ cond t [] (b ∷ front 43 w)) [
         | true ↦ λ e. refl
@@ -391,7 +393,7 @@ list_first w = ap (λ parts. each_of (map segment_of parts)) (split_first w)
 
 behind_of : (o : Option Segment) (r : Option (List ℕ)) (segment : Segment) (rest : List ℕ)
     → option_map {U = Segment × Option (List ℕ)} (λ s. (s, r)) o ≡ Some (segment, Some rest) → r ≡ Some rest
-behind_of None r segment rest e = absurd (let bad : None ≡ Some (segment, Some rest) = e in cc)
+behind_of None r segment rest e = absurd cc
 behind_of (Some s) r segment rest e = ap (λ (o : Option (Segment × Option (List ℕ))). (unwrap_or {T = Segment × Option (List ℕ)} o (segment, None)).1) e
 
 -- What follows a comma is shorter.

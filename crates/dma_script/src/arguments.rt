@@ -1,8 +1,8 @@
 //! Reads the words after the first of a line, one after another.
-ghost use Rattle.std.specs.Prelude.{◌≡◌, ◌==◌, ◌≤◌, [], if◌then◌else◌, Err, IfOk, Ok, OnOk, is_some, unwrap_or};
+ghost use Rattle.std.specs.Prelude.{◌≡◌, ◌==◌, ◌≤◌, [], codes, if◌then◌else◌, Err, IfOk, Ok, OnOk, is_some, unwrap_or};
 ghost use Rattle.dma_script.specs.Words.{hex_pair_of, list_of, words_of};
-ghost use Rattle.dma_script.specs.Arguments.{bytes_at, where_not};
-ghost use Rattle.dma_script.specs.inner.Reading.{LineRead, after_word, begins, bytes_from, byte_from, count_from, ended, event_from, fixed_from, kind_from, list_from, next_of, noted, number_from, segment_from, skip_from, to_list_from, unread, within_from};
+ghost use Rattle.dma_script.specs.Arguments.{byte, bytes, bytes_at, event, fixed, kind, list, makes, segment, steps, where_not};
+ghost use Rattle.dma_script.specs.inner.Reading.{LineRead, after_word, begins, ended, fixed_from, list_from, next_of, noted, number_from, read, skip_from, unread, within_from};
 
 use crate::fault::Cause;
 use crate::pairs::spaced_pairs;
@@ -138,7 +138,7 @@ impl<'a> Arguments<'a> {
     /// Reads a number of at most 255 of any form.
     #[inline(never)]
     fn any_byte(&mut self) -> u8
-        ensures { (result, self.new) ≡ byte_from self.old }
+        ensures { (result, self.new) ≡ read (byte makes) self.old }
     {
         self.within(0, 255, Cause::Range) as u8
     }
@@ -147,7 +147,7 @@ impl<'a> Arguments<'a> {
     /// or have a space after them.
     #[inline(always)]
     pub(crate) fn byte(&mut self) -> u8
-        ensures { (result, self.new) ≡ byte_from self.old }
+        ensures { (result, self.new) ≡ read (byte makes) self.old }
     {
         let [digit @ b'0'..=b'9', after @ ..] = self.rest else {
             return self.any_byte();
@@ -162,7 +162,7 @@ impl<'a> Arguments<'a> {
 
     /// Reads the number of a step line, which is 1 if the line has no more words.
     pub(crate) fn count(&mut self) -> u32
-        ensures { (result, self.new) ≡ count_from self.old }
+        ensures { (result, self.new) ≡ read (steps makes) self.old }
     {
         if next_word(self.rest).is_none() {
             return 1;
@@ -172,7 +172,7 @@ impl<'a> Arguments<'a> {
 
     /// Reads `NAME E` if the next word is the name, and returns the event E.
     pub(crate) fn event(&mut self, name: &[u8]) -> Option<u8>
-        ensures { (result, self.new) ≡ event_from name.now self.old }
+        ensures { (result, self.new) ≡ read (event name.now makes) self.old }
     {
         if !self.skip(name) {
             return None;
@@ -182,7 +182,7 @@ impl<'a> Arguments<'a> {
 
     /// Reads a segment.
     pub(crate) fn segment(&mut self) -> Segment
-        ensures { (result, self.new) ≡ segment_from self.old }
+        ensures { (result, self.new) ≡ read (segment makes) self.old }
     {
         let read = segment_in(self.word());
         self.known(read, Cause::Number, Segment { addr: 0, len: 0 })
@@ -198,7 +198,7 @@ impl<'a> Arguments<'a> {
 
     /// Reads `to LIST`.
     pub(crate) fn to_list(&mut self, alloc: Global) -> Result<Segments, AllocError>
-        ensures { IfOk result (λ list. (list, self.new) ≡ to_list_from self.old) }
+        ensures { IfOk result (λ places. (places, self.new) ≡ read (fixed (codes "to") (list makes)) self.old) }
     {
         self.fixed(b"to");
         self.list(alloc)
@@ -206,7 +206,7 @@ impl<'a> Arguments<'a> {
 
     /// Reads the kind of a mark: loads fail at a `read` mark, stores at a `write` mark.
     pub(crate) fn mark_kind(&mut self) -> MarkKind
-        ensures { (result, self.new) ≡ kind_from self.old }
+        ensures { (result, self.new) ≡ read (kind makes) self.old }
     {
         if self.skip(b"read") {
             return MarkKind::Reading;
@@ -218,7 +218,7 @@ impl<'a> Arguments<'a> {
     /// Reads all words that are left, at least one, as hexadecimal digits, and returns their joined bytes. `kept` is
     /// the list into which they are read first: a short line allocates nothing if it is the same for each line.
     pub(crate) fn bytes(&mut self, alloc: Global, kept: &mut Vec<u8>) -> Result<Bytes, AllocError>
-        ensures { IfOk result (λ bytes. (bytes, self.new) ≡ bytes_from self.old) }
+        ensures { IfOk result (λ found. (found, self.new) ≡ read (bytes makes) self.old) }
     {
         let words = mem::replace(&mut self.rest, &[]);
         if next_word(words).is_none() {

@@ -3,7 +3,8 @@ ghost use Rattle.std.specs.Prelude.{◌≡◌, IfOk, OnOk};
 ghost use Rattle.dma_script.specs.Lines.{Gives};
 ghost use Rattle.dma_script.specs.Words.{words_of};
 ghost use Rattle.dma_script.specs.Plan.{plain, plan_of, transfer_line};
-ghost use Rattle.dma_script.specs.inner.Reading.{source_from, transfer_from};
+ghost use Rattle.dma_script.specs.Arguments.{makes, source};
+ghost use Rattle.dma_script.specs.inner.Reading.{read, transfer_from};
 
 use crate::arguments::Arguments;
 use crate::fault::{Cause, LineError, ScriptError, missing};
@@ -59,7 +60,7 @@ pub struct PlanLine {
 
 /// Reads the source of a transfer: `fill ADDR`, or a list.
 fn source(alloc: Global, words: &mut Arguments<'_>) -> Result<Origin, AllocError>
-    ensures { IfOk result (λ origin. (origin, words.new) ≡ source_from words.old) }
+    ensures { IfOk result (λ origin. (origin, words.new) ≡ read (source makes) words.old) }
 {
     if words.skip(b"fill") {
         return Ok(Origin::Place(words.number()));

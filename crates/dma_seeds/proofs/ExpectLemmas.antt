@@ -1,17 +1,14 @@
 -- Verdicts of several seeds, and scripts without expect lines.
-use Rattle.std.proofs.Common.{◌≡◌, ℕ, zero, suc, ◌+◌, ◌-◌, ◌<◌, ◌≤◌, true, false, List, [], ◌∷◌, ◌++◌, Result, Ok, Err, refl, ap, sym, ◌∙◌, arith, inl, inr}
-use Rattle.std.proofs.Common.{map}
-use Rattle.std.specs.Prelude.{codes, decimal, if◌then◌else◌, is_ok, is_some}
-use Rattle.std.specs.{List.list_any, List.range_with_len, Str.Lines.lines}
+use Rattle.std.proofs.Common.{◌≡◌, ℕ, suc, ◌+◌, ◌-◌, ◌<◌, ◌≤◌, true, false, List, [], ◌∷◌, ◌++◌, refl, ap, sym, ◌∙◌, arith}
+use Rattle.std.specs.Prelude.{codes, decimal, if◌then◌else◌}
+use Rattle.std.specs.{List.range_with_len}
 use Rattle.std.proofs.{lemmas.Bool.ne_eqb, lemmas.Bool.true≢false, lemmas.Bool.false≢true, lemmas.List.Sums.sum_by-cons}
 use Rattle.dma_io.specs.Command.{text_of}
-use Rattle.dma_script.specs.{Race.race_script_of, Words.words_of, declared.fault.Fault.Fault, declared.race.RaceScript.RaceScript}
-use Rattle.dma_seeds.specs.Expect.{Unread, after_lines, expected_in, has_expects, is_good, verdict, verdict_of, verdict_on, without_expects}
-use Rattle.dma_seeds.specs.Seeds.{failing, failing_text, first_verdict, number_of_things, seeds_verdict_of, unless_holds, verdicts}
-use Rattle.dma_seeds.specs.declared.expect.Verdict.TheVariants.{Holds, Refused}
-use Rattle.dma_seeds.specs.{Race.raced, Turns.turns_of_seed, inner.Counted.failing_in, declared.seeds.SeedRange.SeedRange}
+use Rattle.dma_seeds.specs.Expect.{is_good}
+use Rattle.dma_seeds.specs.Seeds.{failing, failing_text, first_verdict, number_of_things, unless_holds, verdicts}
+use Rattle.dma_seeds.specs.declared.expect.Verdict.TheVariants.{Holds}
+use Rattle.dma_seeds.specs.{inner.Counted.failing_in, declared.seeds.SeedRange.SeedRange}
 use Rattle.dma_seeds.specs.{declared.seeds.SeedsVerdict.SeedsVerdict, declared.expect.Verdict.Verdict}
-use Rattle.dma_seeds.proofs.ReadLemmas.{option_cases}
 
 -- ---- several seeds
 
@@ -92,22 +89,6 @@ counted_all each first end seed found done some =
     ap (λ (v : Verdict). let s : SeedsVerdict = record { first = v; failing = found.failing } in s) firsts
     ∙ ap (λ (n : ℕ). let s : SeedsVerdict = record { first = first_verdict each first (end - first); failing = n } in s) fails
 
--- if the expect lines hold for each seed, they fail for none
-all_hold : (each : ℕ → Verdict) → ((seed : ℕ) → each seed ≡ Holds) → (first n : ℕ) → first_verdict each first n ≡ Holds
-all_hold each holds first zero = refl
-all_hold each holds first (suc n) = rw (holds first) (all_hold each holds (first + 1) n)
-
-none_failing : (each : ℕ → Verdict) → ((seed : ℕ) → each seed ≡ Holds) → (first n : ℕ) → failing each first n ≡ 0
-none_failing each holds first zero = refl
-none_failing each holds first (suc n) =
-    omega (
-      arith,
-      sum_by-cons (λ s. failing_in (each s)) first (range_with_len (first + 1) n),
-      ap failing_in (holds first),
-      none_failing each holds (first + 1)
-          n,
-    )
-
 -- the line that says for how many seeds an expect line fails
 pub failing_printed : (n many : ℕ) (seeds : SeedRange) (old new : List ℕ) → (n ≡ 0 → ⊥) → many ≡ seeds.last + 1 - seeds.first
     → new ≡ old ++ text_of ((codes "  expect lines fail for " ++ decimal n ++ codes " of " ++ number_of_things many (codes "seed")) ∷ [])
@@ -116,40 +97,3 @@ failing_printed n many seeds old new some same printed =
     let text : ℕ → List ℕ = λ m. text_of ((codes "  expect lines fail for " ++ decimal n ++ codes " of " ++ number_of_things m (codes "seed")) ∷ []) in
     printed ∙ ap (λ m. old ++ text m) same
     ∙ ap (λ b. old ++ (if b then [] else text (seeds.last + 1 - seeds.first))) (sym (ne_eqb n 0 some))
-
--- ---- no expect lines
-
--- a script without expect lines holds
-none_fails : (seed n : ℕ) (unread : Unread) (ls : List (List ℕ)) → list_any (λ line. is_some (expected_in (words_of line))) ls ≡ false
-    → verdict_on (after_lines seed n unread ls) ≡ Holds
-none_fails seed n unread [] none = refl
-none_fails seed n unread (line ∷ rest) none = elim (option_cases (expected_in (words_of line))) [
-  | inl is ↦
-      let others : list_any (λ line. is_some (expected_in (words_of line))) rest ≡ false = rw is at none in
-      rw is (none_fails seed (n + 1) _ rest others)
-  | inr (text, is) ↦ let bad : true ≡ false = rw is at none in absurd (true≢false bad)
-]
-
-holds_of : (r : Result RaceScript Fault) (input : List ℕ) (seed : ℕ) → is_ok r ≡ true → has_expects input ≡ false → verdict_of r input seed ≡ Holds
-holds_of (Ok script) input seed ok none =
-    none_fails seed 0 (record { left = []; answers = map text_of (raced script (turns_of_seed script.jobs seed)).groups }) (lines input) none
-holds_of (Err fault) input seed ok none = absurd (false≢true ok)
-
-pub all_seeds_hold : (input : List ℕ) (first n : ℕ) → is_ok (race_script_of (without_expects input)) ≡ true → has_expects input ≡ false
-    → verdicts (verdict input) first n ≡ record { first = Holds; failing = 0 }
-all_seeds_hold input first n ok none =
-    let each : (seed : ℕ) → verdict input seed ≡ Holds = λ seed. holds_of (race_script_of (without_expects input)) input seed ok none in
-    ap (λ (v : Verdict). let s : SeedsVerdict = record { first = v; failing = failing (verdict input) first n } in s) (all_hold (verdict input) each first n)
-    ∙ ap (λ (k : ℕ). let s : SeedsVerdict = record { first = Holds; failing = k } in s) (none_failing (verdict input) each first n)
-
--- a script without a fault
-pub seeds_good : (r : Result RaceScript Fault) (input : List ℕ) (seeds : SeedRange) → is_ok r ≡ true
-    → seeds_verdict_of r input seeds ≡ verdicts (verdict input) seeds.first (seeds.last + 1 - seeds.first)
-seeds_good (Ok script) input seeds ok = refl
-seeds_good (Err fault) input seeds ok = absurd (false≢true ok)
-
--- a script with a fault
-pub seeds_bad : (r : Result RaceScript Fault) (input : List ℕ) (seeds : SeedRange) → is_ok r ≡ false
-    → seeds_verdict_of r input seeds ≡ record { first = Refused; failing = 0 }
-seeds_bad (Ok script) input seeds bad = absurd (true≢false bad)
-seeds_bad (Err fault) input seeds bad = refl

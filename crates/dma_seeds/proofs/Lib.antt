@@ -1,3 +1,4 @@
+pub mod AnswerLemmas
 pub mod ExpectLemmas
 pub mod FaultLemmas
 pub mod OutputLemmas

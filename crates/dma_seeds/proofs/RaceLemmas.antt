@@ -127,13 +127,6 @@ lengths_add [] = refl
 lengths_add (g ∷ groups) =
     omega (arith, sum_by-cons (λ n. n) (length (text_of g)) (lengths_of groups), lengths_add groups, length-append (text_of g) (printed_text groups))
 
--- what was appended to nothing
-pub prints_alone : (groups : List (List (List ℕ))) (a c l n : List ℕ) → a ≡ [] → l ≡ [] → Prints groups a c l n → Prints groups [] c [] n
-prints_alone groups a c l n text lengths p = record {
-  appended = p.appended ∙ ap (λ t. t ++ printed_text groups) text;
-  measured = p.measured ∙ ap (λ t. t ++ lengths_of groups) lengths;
-}
-
 -- a text that was printed alone
 pub pieces_printed : (groups : List (List (List ℕ))) (text lengths : List ℕ) → Prints groups [] text [] lengths → pieces lengths text ≡ map text_of groups
 pieces_printed groups text lengths p =
@@ -146,14 +139,6 @@ lengths_fit groups text lengths p = omega (arith, ap sum p.measured, ap length p
 started_from : (script : RaceScript) (seed : ℕ) (v : View) (turns : List JobTurn) (after : List Statement) → IsStarted script seed v turns after
     → from_go v turns after ≡ from_go (view_after script.before) (turns_of_seed script.jobs seed) script.after
 started_from script seed v turns after started = rw (started.view, started.turns_are, started.after_is) refl
-
--- a race prints what its lines before `go` print, and then the rest
-pub raced_in_parts : (script : RaceScript) (seed : ℕ) (v : View) (turns : List JobTurn) (after : List Statement) (a b c l m n : List ℕ)
-    → IsStarted script seed v turns after → Prints ([] ∷ early_lines script) a b l m → Prints (from_go v turns after) b c m n
-    → Prints (raced script (turns_of_seed script.jobs seed)).groups a c l n
-raced_in_parts script seed v turns after a b c l m n started first last =
-    subst (λ (g : List (List (List ℕ))). Prints ([] ∷ early_lines script ++ g) a c l n) (started_from script seed v turns after started)
-    (prints_both ([] ∷ early_lines script) (from_go v turns after) a b c l m n first last)
 
 -- the memory line prints nothing
 pub started_prints : (script : RaceScript) (v : View) (a c l m n : List ℕ) → v ≡ first_view script → m ≡ l ++ 0 ∷ []
@@ -172,11 +157,25 @@ pub go_and_after : (v w : View) (turns : List JobTurn) (after : List Statement) 
 go_and_after v w turns after a b c l m n left first last =
     prints_both _ _ a b c l m n first (subst (λ (x : View). Prints (lines_answered x after) b c m n) left last)
 
--- what is printed from `go` on
-pub from_started : (script : RaceScript) (seed : ℕ) (v : View) (turns : List JobTurn) (after : List Statement) (a c l n : List ℕ)
-    → IsStarted script seed v turns after → a ≡ [] → Prints (from_go v turns after) a c l n → c ≡ text_from_go (Ok script) seed
-from_started script seed v turns after a c l n started none p =
-    p.appended ∙ ap (λ t. t ++ printed_text (from_go v turns after)) none ∙ ap printed_text (started_from script seed v turns after started)
+-- what a race printed alone: what its lines before `go` print, and then the rest
+pub ran_alone : (script : RaceScript) (seed : ℕ) (v : View) (turns : List JobTurn) (after : List Statement) (a b c m n : List ℕ) → a ≡ []
+    → IsStarted script seed v turns after → Prints ([] ∷ early_lines script) a b [] m → Prints (from_go v turns after) b c m n
+    → Prints (raced script (turns_of_seed script.jobs seed)).groups [] c [] n
+ran_alone script seed v turns after a b c m n none started first last =
+    subst (λ t. Prints (raced script (turns_of_seed script.jobs seed)).groups t c [] n) none
+    (subst (λ (g : List (List (List ℕ))). Prints ([] ∷ early_lines script ++ g) a c [] n) (started_from script seed v turns after started)
+    (prints_both ([] ∷ early_lines script) (from_go v turns after) a b c [] m n first last))
+
+-- what it printed from `go` on
+pub from_go_behind : (script : RaceScript) (seed early : ℕ) (v : View) (turns : List JobTurn) (after : List Statement) (b c m n : List ℕ) → early ≡ length b
+    → IsStarted script seed v turns after → Prints (from_go v turns after) b c m n
+    → (early ≤ length c) × (drop early c ≡ text_from_go (Ok script) seed)
+from_go_behind script seed early v turns after b c m n at started last =
+    let rest = printed_text (from_go v turns after) in (
+      omega (arith, at, ap length last.appended, length-append b rest),
+      ap (λ k. drop k c) at ∙ ap (drop (length b)) last.appended ∙ drop-append_seam b rest
+          ∙ ap printed_text (started_from script seed v turns after started),
+    )
 
 -- ---- what `dmasim race` may print
 

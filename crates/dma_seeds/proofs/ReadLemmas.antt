@@ -3,7 +3,7 @@ use Rattle.std.proofs.Common.{◌≡◌, ℕ, zero, suc, ◌+◌, ◌≤◌, tru
 use Rattle.std.proofs.Common.{subst, arith, append_assoc, append-nil, inl, inr, map}
 use Rattle.std.specs.Prelude.{◌⊎◌, decimal, flat_map, if◌then◌else◌, slice_index, ◌==◌, IfOk, nat_lt, length}
 use Rattle.std.specs.{List.list_all, Option.ok_or, Option.option_map, Str.bytes_eq, Str.Lines.lines}
-use Rattle.std.proofs.{lemmas.Bool.cases_Bool, lemmas.Fmt.decimal_digit, lemmas.Result.IfOk-at_ok, lemmas.Result.IfOk-weaker}
+use Rattle.std.proofs.{lemmas.Bool.cases_Bool, lemmas.Fmt.decimal_digit, lemmas.List.Concat.flat_map-append, lemmas.Result.IfOk-at_ok, lemmas.Result.IfOk-weaker}
 use Rattle.dma_io.specs.Command.{text_of}
 use Rattle.dma_text.specs.Results.{◌>>=◌}
 use Rattle.dma_script.specs.Lines.{after_line, after_lines, at_line, is_skipped}
@@ -15,7 +15,7 @@ use Rattle.dma_script.specs.{declared.statements.Keyword.Keyword, declared.state
 use Rattle.dma_script.proofs.Within.{race_script_within}
 use Rattle.dma_engine.specs.Interleaved.{JobTurn}
 use Rattle.dma_seeds.specs.{Script.ScriptsAreRead, Script.as_run, Script.script_text_of, Script.text_for, Script.turn_line, Turns.turns_of_seed}
-use Rattle.dma_seeds.proofs.TextLemmas.{ArePlain, lines_text, plain_append, text_of_append}
+use Rattle.dma_seeds.proofs.TextLemmas.{ArePlain, lines_text, plain_append}
 use Rattle.dma_seeds.proofs.TurnLemmas.{AreLow, seeds_low}
 use Rattle.dma_script.specs.declared.fault.Cause.TheVariants as causes
 use Rattle.dma_script.specs.declared.statements.Statement.TheVariants as statements
@@ -252,17 +252,9 @@ texts_are turns (line ∷ rest) =
     let here = lines_for turns line (words_of line) in
     let others = flat_map (λ l. lines_for turns l (words_of l)) rest in
     ap (λ t. t ++ flat_map (λ l. text_for (text_of turns) l (words_of l)) rest) (text_is turns line (words_of line))
-    ∙ ap (λ t. text_of here ++ t) (texts_are turns rest) ∙ sym (text_of_append here others)
+    ∙ ap (λ t. text_of here ++ t) (texts_are turns rest) ∙ sym (flat_map-append (λ line. line ++ 10 ∷ []) here others)
 
 -- ---- whole scripts
-
--- what a whole script gives, given the lines that were read
-from_read : (steps : List Statement) (input : List ℕ) (ls : List (List ℕ)) (read : RaceRead) (script : RaceScript) → read.before ≡ Some script.before
-    → read.after ≡ Some script.after → Reads None ls (state steps read.before read.after)
-    → after_lines run_step 0 None ls ≡ Ok (Some (record (script.before) { statements = (script.before.statements ++ steps) ++ script.after }))
-from_read steps input ls read script before after reads =
-    reads_lines 0 None (Some (record (script.before) { statements = (script.before.statements ++ steps) ++ script.after })) ls
-    (subst (λ b. Reads None ls (state steps b (Some script.after))) before (subst (λ a. Reads None ls (state steps read.before a)) after reads))
 
 -- the parts of a script that was read
 pub record ReadInParts (input : List ℕ) (script : RaceScript) : Type 0 where
@@ -299,5 +291,6 @@ scripts_are_read input script seed is =
     let text : script_text_of (race_script_of input) input seed ≡ text_of ls = ap (λ r. script_text_of r input seed) is
     ∙ texts_are (map turn_line turns) (lines input) in
     let read : after_lines run_step 0 None (lines (text_of ls)) ≡ Ok (Some (as_run script turns)) =
-    ap (λ l. after_lines run_step 0 None l) (lines_text ls follows.plain) ∙ from_read steps input ls parts.read script parts.before parts.after follows.read in
+    ap (λ l. after_lines run_step 0 None l) (lines_text ls follows.plain)
+    ∙ reads_lines 0 None (Some (as_run script turns)) ls (rw (parts.before, parts.after) at follows.read) in
     ap run_script_of text ∙ rw read refl

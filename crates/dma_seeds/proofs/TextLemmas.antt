@@ -19,10 +19,6 @@ pub plain_append : (xs ys : List (List ℕ)) → ArePlain xs → ArePlain ys →
 plain_append [] ys first rest = rest
 plain_append (x ∷ xs) ys (one, more) rest = (one, plain_append xs ys more rest)
 
-pub text_of_append : (xs ys : List (List ℕ)) → text_of (xs ++ ys) ≡ text_of xs ++ text_of ys
-text_of_append [] ys = refl
-text_of_append (x ∷ xs) ys = ap (λ t. (x ++ 10 ∷ []) ++ t) (text_of_append xs ys) ∙ sym (append_assoc (x ++ 10 ∷ []) (text_of xs) (text_of ys))
-
 -- a plain byte is none that isn't plain
 plain_other : (b c : ℕ) → is_plain b ≡ true → is_plain c ≡ false → eqb b c ≡ false
 plain_other b c plain odd = ne_eqb b c (λ same. true≢false (sym plain ∙ ap is_plain same ∙ odd))

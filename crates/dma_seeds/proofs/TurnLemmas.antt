@@ -31,11 +31,11 @@ job_at_has (job ∷ jobs) place less = elim (cases_lt place job.left) [
 
 -- ---- one turn
 
-module _ (jobs : List TurnsLeft) (k : ℕ) (has : HasTurn jobs k) where
-  -- one turn fewer is left
-  pub total-after : (n : ℕ) → total_left jobs ≡ suc n → total_left (slice_set jobs k (after_turn (slice_index_or jobs k no_turns))) ≡ n
-  total-after n total =
-      omega (arith, total, has.some, sum_by-set (λ (j : TurnsLeft). j.left) jobs k (after_turn (slice_index_or jobs k no_turns)) no_turns has.there)
+-- one turn fewer is left
+total-after : (jobs : List TurnsLeft) (k : ℕ) → HasTurn jobs k → (n : ℕ) → total_left jobs ≡ suc n
+    → total_left (slice_set jobs k (after_turn (slice_index_or jobs k no_turns))) ≡ n
+total-after jobs k has n total =
+    omega (arith, total, has.some, sum_by-set (λ (j : TurnsLeft). j.left) jobs k (after_turn (slice_index_or jobs k no_turns)) no_turns has.there)
 
 -- ---- all turns
 

@@ -1,8 +1,9 @@
 -- The message for the first fault of a script (profile): the number of its line, the cause, and the line.
-use Rattle.std.specs.Prelude.{ℕ, ◌-◌, ◌==◌, ◌&&◌, nat_le, nat_lt, length, if◌then◌else◌, List, [], ◌++◌, map, take, slice_index_or, Result, Ok, Err, codes}
-use Rattle.std.specs.Prelude.{decimal}
+use Rattle.std.specs.Prelude.{ℕ, ◌-◌, ◌==◌, ◌&&◌, nat_le, nat_lt, length, if◌then◌else◌, List, [], ◌∷◌, ◌++◌, map, take, slice_index_or, Result, Ok, Err, codes}
+use Rattle.std.specs.Prelude.{decimal, false}
 use Rattle.std.specs.Str.Lines.{lines}
-use Rattle.dma_script.specs.{Printing.cause_name, Race.race_script_of, Statements.run_script_of, declared.fault.Cause.Cause}
+use Rattle.dma_io.specs.{Answer.Prints, Command.text_of}
+use Rattle.dma_script.specs.{Printing.cause_name, Printing.fault_line, Race.race_script_of, Statements.run_script_of, declared.fault.Cause.Cause}
 use Rattle.dma_script.specs.{declared.fault.Cause.TheVariants.Go, declared.fault.Fault.Fault}
 use Rattle.dma_seeds.specs.Expect.{without_expects}
 
@@ -40,6 +41,10 @@ fault_text input fault =
 abbrev pub message_of : {A : Type 0} → List ℕ → Result A Fault → List ℕ
 message_of input (Ok script) = []
 message_of input (Err fault) = fault_text input fault
+
+-- what a call prints for a script with this first fault: its line, and on standard error the message for it
+abbrev pub refused : List ℕ → Fault → Prints
+refused input fault = record { out = text_of (fault_line fault ∷ []); err = fault_text input fault; file = []; succeeds = false }
 
 -- The message for a race script, which may have expect lines.
 abbrev pub race_message : List ℕ → List ℕ

@@ -126,7 +126,7 @@ fn expected_in(line: &[u8]) -> Option<&[u8]>
 }
 
 /// Returns whether a script has an `expect` line.
-pub(crate) fn has_expects(script: &[u8]) -> bool
+fn has_expects(script: &[u8]) -> bool
     ensures { result ≡ has_expects script.now }
 {
     let mut rest = script;

@@ -3,11 +3,12 @@
 
 ghost use Rattle.std.specs.Prelude.{◌≡◌, ◌++◌, IfOk, OnOk, map};
 ghost use Rattle.dma_text.specs.Text.{Begins};
-ghost use Rattle.dma_seeds.specs.Faults.{fault_text, line_at, missing_message, race_message, run_message, shown_byte, shown_line};
+ghost use Rattle.dma_io.specs.Answer.{prints_of};
+ghost use Rattle.dma_seeds.specs.Faults.{fault_text, line_at, missing_message, refused, run_message, shown_byte, shown_line};
 
-use crate::expect::without_expects;
+use dma_io::answer::Answer;
+use dma_io::printing::print_line;
 use dma_script::fault::{Cause, Fault, ScriptError};
-use dma_script::race::read_race_script;
 use dma_script::statements::read_run_script;
 use dma_script::words::split_line;
 use dma_text::text::Text;
@@ -92,18 +93,15 @@ fn push_fault(script: &[u8], fault: Fault, out: &mut Vec<u8>) -> Result<(), Allo
     push_line(line_at(script, fault.line), out)
 }
 
-/// Appends the message for the first fault of a race script, which may have `expect` lines, or nothing if it has no
-/// fault. Fails if memory runs out, and may have appended a part of the message then.
-pub fn push_race_message(alloc: Global, script: &[u8], out: &mut Vec<u8>) -> Result<(), AllocError>
-    ensures ok { OnOk result (out.new.items ≡ out.old.items ++ race_message script.now) }
-    ensures begins { Begins out.new.items out.old.items }
+/// Returns the answer to a script with this first fault: its line, and the message for it. Fails if memory runs out.
+pub(crate) fn refused(alloc: Global, script: &[u8], fault: Fault) -> Result<Answer, AllocError>
+    ensures { IfOk result (λ answer. prints_of answer ≡ refused script.now fault) }
 {
-    let kept = without_expects(alloc, script)?;
-    match read_race_script(alloc, &kept).err() {
-        None => Ok(()),
-        Some(ScriptError::NoMemory) => Err(AllocError),
-        Some(ScriptError::Fault(fault)) => push_fault(script, fault, out),
-    }
+    let mut out = Vec::new(alloc);
+    print_line(&mut out, &fault)?;
+    let mut err = Vec::new(alloc);
+    push_fault(script, fault, &mut err)?;
+    Ok(Answer::new(out, err, Vec::new(alloc), false))
 }
 
 /// Appends the message for the first fault of a script of `run`, or nothing if it has no fault. Fails if memory runs

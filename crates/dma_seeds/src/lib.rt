@@ -3,9 +3,9 @@
 //! Proved: the turns for a seed are an interleaving of the jobs' turns, and what is printed, a function of script and
 //! seed (`race_by_seed`), is one of the texts that `dmasim race` may print, if the script isn't too long for it
 //! (`laws::seeds_interleave`): that of `run` with those turns as `step` lines in place of `go`, but with the line of
-//! `go` in place of the lines of the steps (`laws::races_are_runs`). `script_of_seed` writes that script of `run`.
-//! `race_by_seeds` prints which outputs the seeds of a range give (`seeds_printed`). This is so for a script without
-//! its `expect` lines; whether these hold is a function of script and seed, too (`verdict`), and of script and range
+//! `go` in place of the lines of the steps (`laws::races_are_runs`). `race_by_seed` returns that script of `run`, too,
+//! and `race_by_seeds` which outputs the seeds of a range give (`seeds_printed`). This is so for a script without its
+//! `expect` lines; whether these hold is a function of script and seed, too (`verdict`), and of script and range
 //! (`seeds_verdict`). The message for the first fault of a script is a function of the script (`race_message`,
 //! `run_message`).
 //!

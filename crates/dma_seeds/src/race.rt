@@ -1,27 +1,30 @@
 //! A race whose turns are taken in the order that a seed determines.
 
-ghost use Rattle.std.specs.Prelude.{◌≡◌, ◌+◌, ◌<◌, ◌++◌, ◌∷◌, [], IfOk, OnErr, OnOk, codes, decimal};
+ghost use Rattle.std.specs.Prelude.{◌≡◌, ◌+◌, ◌<◌, ◌++◌, ◌∷◌, [], IfOk, OnOk, codes, decimal};
 ghost use Rattle.std.specs.List.{sum_by};
-ghost use Rattle.std.specs.Str.Lines.{lines};
 ghost use Rattle.dma_engine.specs.Interleaved.{turns_taken};
 ghost use Rattle.dma_engine.specs.Turn.{finishes_in, steps_in, turn};
 ghost use Rattle.dma_engine.specs.View.{new_view};
-ghost use Rattle.dma_io.specs.Command.{printed_text};
+ghost use Rattle.dma_io.specs.Answer.{prints_of};
 ghost use Rattle.dma_script.specs.Race.{IsRace};
 ghost use Rattle.dma_script.specs.Statements.{IsWithin};
 ghost use Rattle.dma_commands.specs.Left.{lines_left};
 ghost use Rattle.dma_commands.specs.Raced.{first_view, from_go, go_line};
 ghost use Rattle.dma_commands.specs.Run.{line_answer, lines_answered};
-ghost use Rattle.dma_seeds.specs.Expect.{lines_verdict, verdict, without_expects};
+ghost use Rattle.dma_seeds.specs.Answers.{Races};
+ghost use Rattle.dma_seeds.specs.Expect.{is_good, verdict_text};
+ghost use Rattle.dma_seeds.specs.Race.{early_lines};
 ghost use Rattle.dma_seeds.specs.Turns.{turns_of_seed};
-ghost use Rattle.dma_seeds.specs.Race.{early_lines, race_printed, raced};
 ghost use Rattle.dma_seeds.specs.inner.Measured.{Prints};
-ghost use Rattle.dma_seeds.specs.inner.Started.{IsStarted};
+ghost use Rattle.dma_seeds.specs.inner.Started.{IsRaceOutput, IsStarted};
 
 use crate::expect::{Verdict, lines_verdict, without_expects};
+use crate::faults::refused;
+use crate::script::script_of_jobs;
 use crate::turns::Turns;
 use dma_commands::run::{new_engine, run_line};
 use dma_engine::{Call, Engine, EngineFault, Reply, Turn};
+use dma_io::answer::Answer;
 use dma_io::printing::print_line;
 use dma_script::fault::ScriptError;
 use dma_script::interpreter::Interpreter;
@@ -269,66 +272,74 @@ impl StartedRace {
     }
 }
 
-/// Executes a race, and appends what it prints. Returns the length of what each line of its script printed. Fails if
-/// memory runs out.
-fn run_whole(
-    alloc: Global,
-    race: RaceScript,
-    seed: u64,
-    out: &mut Vec<u8>,
-) -> Result<Vec<usize>, AllocError>
-    requires { IsRace race }
-    ensures { IfOk result (λ lengths. Prints (raced race (turns_of_seed race.jobs seed)).groups
-        out.old.items out.new.items [] lengths.items) }
-{
-    let started = start(alloc, race, seed, out)?;
-    started.finish(out)
+/// A race that was executed.
+#[derive(Drop)]
+pub(crate) struct Ran {
+    /// What it printed.
+    pub text: Vec<u8>,
+    /// How many of these bytes are in front of the line of `go`.
+    pub early: usize,
+    /// Whether the `expect` lines of its script hold.
+    pub verdict: Verdict,
 }
 
-/// Executes a race, appends what it prints, and returns whether the `expect` lines of its script hold. Fails if memory
-/// runs out.
-fn run_race(
+/// Executes a race of this script. Fails if memory runs out.
+pub(crate) fn run_race(
     alloc: Global,
     script: &[u8],
     race: RaceScript,
     seed: u64,
-    out: &mut Vec<u8>,
-) -> Result<Verdict, AllocError>
+) -> Result<Ran, AllocError>
     requires { IsRace race }
-    ensures text { OnOk result (out.new.items
-        ≡ out.old.items ++ printed_text (raced race (turns_of_seed race.jobs seed)).groups) }
-    ensures verdict { IfOk result (λ verdict. verdict
-        ≡ lines_verdict seed (lines script.now) (raced race (turns_of_seed race.jobs seed)).groups) }
-    ensures err { OnErr result (out.new.items ≡ out.old.items) }
+    ensures { IfOk result
+        (λ ran. IsRaceOutput script.now race seed ran.text.items ran.early ran.verdict) }
 {
     let mut text = Vec::new(alloc);
-    let lengths = run_whole(alloc, race, seed, &mut text)?;
+    let started = start(alloc, race, seed, &mut text)?;
+    let early = text.len();
+    let lengths = started.finish(&mut text)?;
     let verdict = lines_verdict(alloc, seed, script, &text, &lengths)?;
-    out.extend_from_slice(&text)?;
-    Ok(verdict)
+    Ok(Ran {
+        text,
+        early,
+        verdict,
+    })
 }
 
-/// Executes a race script in one thread, with the turns of its jobs in the order that a seed determines, and appends
-/// what `dmasim race` prints for that order and the script without its `expect` lines. Returns whether the script has a
-/// fault, and whether its `expect` lines hold. If memory runs out, appends nothing.
-pub fn race_by_seed(
-    alloc: Global,
-    script: &[u8],
-    seed: u64,
-    out: &mut Vec<u8>,
-) -> Result<Verdict, AllocError>
-    ensures text { OnOk result (out.new.items ≡ out.old.items
-        ++ printed_text (race_printed (without_expects script.now) seed).groups) }
-    ensures verdict { IfOk result (λ found. found ≡ verdict script.now seed) }
-    ensures err { OnErr result (out.new.items ≡ out.old.items) }
+/// Returns the answer to a race that was executed, and to its script as one of `run`. Fails if memory runs out.
+fn answer_of(ran: Ran, file: Vec<u8>, alloc: Global) -> Result<Answer, AllocError>
+    ensures { IfOk result (λ answer. prints_of answer ≡ record {
+      out = ran.text.items;
+      err = verdict_text ran.verdict;
+      file = file.items;
+      succeeds = is_good ran.verdict;
+    }) }
+{
+    let Ran {
+        text,
+        early: _,
+        verdict,
+    } = ran;
+    let mut err = Vec::new(alloc);
+    verdict.print(&mut err)?;
+    let succeeds = verdict.is_good();
+    Ok(Answer::new(text, err, file, succeeds))
+}
+
+/// Executes a race script in one thread, with the turns of its jobs in the order that a seed determines. Returns what
+/// `dmasim race` prints for that order and the script without its `expect` lines, the message for a fault of the script
+/// or for the first `expect` line that fails, and the same race as a script of `run`. Fails if memory runs out.
+pub fn race_by_seed(alloc: Global, script: &[u8], seed: u64) -> Result<Answer, AllocError>
+    ensures { IfOk result (λ answer. Races seed script.now (prints_of answer)) }
 {
     let kept = without_expects(alloc, script)?;
     match read_race_script(alloc, &kept) {
-        Ok(race) => run_race(alloc, script, race, seed, out),
-        Err(ScriptError::NoMemory) => Err(AllocError),
-        Err(error) => {
-            print_line(out, &error)?;
-            Ok(Verdict::Refused)
+        Ok(race) => {
+            let file = script_of_jobs(alloc, &kept, race.jobs.as_slice(), seed)?;
+            let ran = run_race(alloc, script, race, seed)?;
+            answer_of(ran, file, alloc)
         }
+        Err(ScriptError::Fault(fault)) => refused(alloc, script, fault),
+        Err(ScriptError::NoMemory) => Err(AllocError),
     }
 }

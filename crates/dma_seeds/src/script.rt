@@ -1,17 +1,13 @@
 //! A race whose turns are taken in the order that a seed determines, as a script of `run`.
 
-ghost use Rattle.std.specs.Prelude.{◌≡◌, ◌≤◌, ◌++◌, IfOk, OnErr, OnOk, is_ok, length};
-ghost use Rattle.dma_script.specs.Race.{race_script_of};
+ghost use Rattle.std.specs.Prelude.{◌≡◌, ◌≤◌, ◌++◌, IfOk, OnOk, length};
 ghost use Rattle.dma_script.specs.Words.{words_of};
-ghost use Rattle.dma_seeds.specs.Expect.{without_expects};
-ghost use Rattle.dma_seeds.specs.Script.{script_text, text_for, text_with, turns_text};
+ghost use Rattle.dma_seeds.specs.Script.{text_for, text_with, turns_text};
 ghost use Rattle.dma_seeds.specs.Turns.{turns_of_seed};
 
-use crate::expect::without_expects;
 use crate::turns::Turns;
 use dma_io::printing::print_line;
-use dma_script::fault::ScriptError;
-use dma_script::race::{JobLine, read_race_script};
+use dma_script::race::JobLine;
 use dma_script::words::{next_word, split_line};
 use dma_text::bytes::is_text;
 use std::alloc::{AllocError, Global};
@@ -55,9 +51,9 @@ fn push_lines(script: &[u8], turns: &[u8], out: &mut Vec<u8>) -> Result<(), Allo
     Ok(())
 }
 
-/// Returns a race script as a script of `run`, whose `step` lines are the turns of these jobs, in the order that a
-/// seed determines. Fails if memory runs out.
-fn script_of_jobs(
+/// Returns a race script without `expect` lines as a script of `run`, whose `step` lines are the turns of its jobs, in
+/// the order that a seed determines. Skipped lines are left out. Fails if memory runs out.
+pub(crate) fn script_of_jobs(
     alloc: Global,
     script: &[u8],
     jobs: &[JobLine],
@@ -72,29 +68,4 @@ fn script_of_jobs(
     let mut text = Vec::new(alloc);
     push_lines(script, &turns, &mut text)?;
     Ok(text)
-}
-
-/// Appends a race script as a script of `run`, whose `step` lines are the turns of the jobs, in the order that a seed
-/// determines. Skipped lines and `expect` lines are left out. Returns false, and appends nothing, if the race script
-/// has a fault. If memory runs out, appends nothing.
-pub fn script_of_seed(
-    alloc: Global,
-    script: &[u8],
-    seed: u64,
-    out: &mut Vec<u8>,
-) -> Result<bool, AllocError>
-    ensures good { IfOk result (λ good. good
-        ≡ is_ok (race_script_of (without_expects script.now))) }
-    ensures text { OnOk result
-        (out.new.items ≡ out.old.items ++ script_text (without_expects script.now) seed) }
-    ensures err { OnErr result (out.new.items ≡ out.old.items) }
-{
-    let kept = without_expects(alloc, script)?;
-    let text = match read_race_script(alloc, &kept) {
-        Ok(race) => script_of_jobs(alloc, &kept, race.jobs.as_slice(), seed)?,
-        Err(ScriptError::NoMemory) => return Err(AllocError),
-        Err(_) => return Ok(false),
-    };
-    out.extend_from_slice(&text)?;
-    Ok(true)
 }

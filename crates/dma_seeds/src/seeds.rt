@@ -1,20 +1,24 @@
 //! A race executed once for each seed of a range.
 
-ghost use Rattle.std.specs.Prelude.{◌≡◌, ◌<◌, ◌++◌, ◌+◌, ◌-◌, IfOk, OnErr, OnOk, is_ok, true, Ok};
+ghost use Rattle.std.specs.Prelude.{◌≡◌, ◌<◌, ◌++◌, ◌+◌, ◌-◌, [], IfOk, OnErr, OnOk, is_ok, true};
 ghost use Rattle.dma_text.specs.Text.{Begins};
-ghost use Rattle.dma_script.specs.Race.{IsRace, race_script_of};
-ghost use Rattle.dma_seeds.specs.Expect.{verdict, without_expects};
-ghost use Rattle.dma_seeds.specs.Seeds.{failing_text, outputs_of, outputs_text, seeds_printed, seeds_verdict, seeds_verdict_text, text_from_go, unless_holds, verdicts};
+ghost use Rattle.dma_io.specs.Answer.{prints_of};
+ghost use Rattle.dma_script.specs.Race.{race_script_of};
+ghost use Rattle.dma_seeds.specs.Answers.{RacesSeeds};
+ghost use Rattle.dma_seeds.specs.Expect.{is_good, verdict, without_expects};
+ghost use Rattle.dma_seeds.specs.Seeds.{failing_text, outputs_of, outputs_text, seeds_verdict_text, text_from_go, unless_holds, verdicts};
 ghost use Rattle.dma_seeds.specs.inner.Counted.{failing_in};
 
-use crate::expect::{Verdict, has_expects, without_expects};
+use crate::expect::{Verdict, without_expects};
+use crate::faults::refused;
 use crate::outputs::{Output, Things, count_output, print_outputs};
-use crate::race::{race_by_seed, start};
+use crate::race::{Ran, run_race};
+use dma_io::answer::Answer;
 use dma_io::printing::print_line;
 use dma_io::progress::Progress;
 use dma_mem::lists::Bytes;
 use dma_script::fault::ScriptError;
-use dma_script::race::{RaceScript, read_race_script};
+use dma_script::race::read_race_script;
 use std::alloc::{AllocError, Global};
 
 /// The seeds from a first one to a last one.
@@ -78,54 +82,69 @@ fn print_failing(failing: u64, seeds: SeedRange, out: &mut Vec<u8>) -> Result<()
     print_line(out, &("  expect lines fail for ", failing, " of ", all))
 }
 
-/// Returns what a race prints for a seed from the line of `go` on. Fails if memory runs out.
-fn text_of_race(alloc: Global, race: RaceScript, seed: u64) -> Result<Vec<u8>, AllocError>
-    requires { IsRace race }
-    ensures { IfOk result (λ text. text.items ≡ text_from_go (Ok race) seed) }
-{
-    let mut early = Vec::new(alloc);
-    let mut text = Vec::new(alloc);
-    let started = start(alloc, race, seed, &mut early)?;
-    started.finish(&mut text)?;
-    Ok(text)
-}
-
-/// Returns what a race script prints for a seed from the line of `go` on, or nothing for a script with a fault. Fails
-/// if memory runs out.
-fn text_from_go(alloc: Global, script: &[u8], seed: u64) -> Result<Vec<u8>, AllocError>
-    ensures { IfOk result
-        (λ text. text.items ≡ text_from_go (race_script_of script.now) seed) }
-{
-    match read_race_script(alloc, script) {
-        Ok(race) => text_of_race(alloc, race, seed),
-        Err(ScriptError::NoMemory) => Err(AllocError),
-        Err(_) => Ok(Vec::new(alloc)),
-    }
-}
-
-/// Executes a race script once for each seed, and returns the different outputs. Fails if memory runs out.
-fn outputs_of<P: Progress>(
+/// Executes a race script for a seed. Returns its output from the line of `go` on, and its verdict. `kept` is the script
+/// without its `expect` lines; it has no fault. Fails if memory runs out.
+fn race_once(
     alloc: Global,
     script: &[u8],
+    kept: &[u8],
+    seed: u64,
+) -> Result<(Output, Verdict), AllocError>
+    requires good { is_ok (race_script_of kept.now) ≡ true }
+    requires kept { kept.now ≡ without_expects script.now }
+    ensures output { IfOk result (λ found. found.0 ≡ record {
+      text = text_from_go (race_script_of kept.now) seed;
+      seeds = 1;
+      first = seed;
+    }) }
+    ensures verdict { IfOk result (λ found. found.1 ≡ verdict script.now seed) }
+{
+    let race = match read_race_script(alloc, kept) {
+        Ok(race) => race,
+        Err(ScriptError::NoMemory) => return Err(AllocError),
+        Err(ScriptError::Fault(_)) => unreachable!(),
+    };
+    let Ran {
+        text,
+        early,
+        verdict,
+    } = run_race(alloc, script, race, seed)?;
+    let output = Output {
+        text: Bytes::from_slice(alloc, &text[early..])?,
+        seeds: 1,
+        first: seed,
+    };
+    Ok((output, verdict))
+}
+
+/// Executes a race script without a fault once for each seed. Returns the different outputs, and the verdict. Fails if
+/// memory runs out.
+fn race_each<P: Progress>(
+    alloc: Global,
+    script: &[u8],
+    kept: &[u8],
     seeds: SeedRange,
     progress: &mut P,
-) -> Result<Vec<Output>, AllocError>
-    ensures { IfOk result (λ outputs. outputs.items ≡ outputs_of
-        (text_from_go (race_script_of script.now)) seeds.first (seeds.last + 1 - seeds.first)) }
+) -> Result<(Vec<Output>, SeedsVerdict), AllocError>
+    requires good { is_ok (race_script_of kept.now) ≡ true }
+    requires kept { kept.now ≡ without_expects script.now }
+    ensures outputs { IfOk result (λ found. found.0.items ≡ outputs_of
+        (text_from_go (race_script_of kept.now)) seeds.first (seeds.last + 1 - seeds.first)) }
+    ensures verdicts { IfOk result (λ found. found.1
+        ≡ verdicts (verdict script.now) seeds.first (seeds.last + 1 - seeds.first)) }
 {
     let mut outputs = Vec::new(alloc);
+    let mut found = SeedsVerdict {
+        first: Verdict::Holds,
+        failing: 0,
+    };
     for seed in u64::from(seeds.first)..u64::from(seeds.last) + 1 {
-        let printed = text_from_go(alloc, script, seed)?;
-        let text = Bytes::from_vec(printed)?;
-        let new = Output {
-            text,
-            seeds: 1,
-            first: seed,
-        };
-        count_output(&mut outputs, new)?;
+        let (output, verdict) = race_once(alloc, script, kept, seed)?;
+        count_output(&mut outputs, output)?;
+        found.count(verdict);
         progress.report(seed + 1 - u64::from(seeds.first), "seeds");
     }
-    Ok(outputs)
+    Ok((outputs, found))
 }
 
 /// Appends how many outputs the seeds of a range give, and each output. Fails if memory runs out.
@@ -140,91 +159,50 @@ fn print_seeds(seeds: SeedRange, outputs: &[Output], out: &mut Vec<u8>) -> Resul
     print_outputs(outputs, out)
 }
 
-/// Executes a race script once for each seed of a range, and appends the different outputs, or the script's fault.
-/// Returns whether the script has no fault. Fails if memory runs out.
-fn print_outputs_of<P: Progress>(
+/// Returns the answer with outputs of the seeds of a range, and the verdict for them. Fails if memory runs out.
+fn answer_of(
     alloc: Global,
-    script: &[u8],
     seeds: SeedRange,
-    out: &mut Vec<u8>,
-    progress: &mut P,
-) -> Result<bool, AllocError>
-    ensures text { OnOk result (out.new.items ≡ out.old.items ++ seeds_printed script.now seeds) }
-    ensures good { IfOk result (λ good. good ≡ is_ok (race_script_of script.now)) }
+    outputs: &[Output],
+    verdict: &SeedsVerdict,
+) -> Result<Answer, AllocError>
+    ensures { IfOk result (λ answer. prints_of answer ≡ record {
+      out = outputs_text seeds outputs.now;
+      err = seeds_verdict_text verdict.now seeds;
+      file = [];
+      succeeds = is_good verdict.now.first;
+    }) }
 {
-    match read_race_script(alloc, script).err() {
-        None => {
-            let outputs = outputs_of(alloc, script, seeds, progress)?;
-            print_seeds(seeds, &outputs, out)?;
-            Ok(true)
-        }
-        Some(ScriptError::NoMemory) => Err(AllocError),
-        Some(error) => {
-            print_line(out, &error)?;
-            Ok(false)
-        }
-    }
+    let mut out = Vec::new(alloc);
+    print_seeds(seeds, outputs, &mut out)?;
+    let mut err = Vec::new(alloc);
+    verdict.print(seeds, &mut err)?;
+    let succeeds = verdict.first.is_good();
+    Ok(Answer::new(out, err, Vec::new(alloc), succeeds))
 }
 
-/// Returns the verdict on a script for a range of seeds. Fails if memory runs out.
-fn verdicts<P: Progress>(
-    alloc: Global,
-    script: &[u8],
-    seeds: SeedRange,
-    progress: &mut P,
-) -> Result<SeedsVerdict, AllocError>
-    requires { is_ok (race_script_of (without_expects script.now)) ≡ true }
-    ensures { IfOk result (λ found. found
-        ≡ verdicts (verdict script.now) seeds.first (seeds.last + 1 - seeds.first)) }
-{
-    let mut found = SeedsVerdict {
-        first: Verdict::Holds,
-        failing: 0,
-    };
-    if !has_expects(script) {
-        return Ok(found);
-    }
-    for seed in u64::from(seeds.first)..u64::from(seeds.last) + 1 {
-        let mut text = Vec::new(alloc);
-        let verdict = race_by_seed(alloc, script, seed, &mut text)?;
-        found.count(verdict);
-        progress.report(seed + 1 - u64::from(seeds.first), "seeds compared");
-    }
-    Ok(found)
-}
-
-/// Executes a race script once for each seed of a range, in one thread, and appends the different outputs from the line
-/// of `go` on, with how many seeds give each and the first of these. Returns the verdict: the script has a fault, or
-/// its `expect` lines hold for all seeds, or the first line that fails for the lowest seed with a failure, and the
-/// number of seeds with a failure. If memory runs out, appends nothing.
+/// Executes a race script once for each seed of a range, in one thread. Returns the different outputs from the line of
+/// `go` on, with how many seeds give each and the first of these, and the message for a fault of the script, or for the
+/// first `expect` line that fails for the lowest seed with a failure, and for how many seeds one fails. Fails if memory
+/// runs out.
 ///
-/// Takes for each seed the time of `race_by_seed`, twice for a script with `expect` lines, and compares its output with
-/// each different one before. Keeps each different output, and of no seed more than that. Reports progress after each
-/// seed.
-#[tactic(auto, using(crate::proofs::ExpectLemmas::seeds_good, crate::proofs::ExpectLemmas::seeds_bad))]
+/// Takes for each seed the time of `race_by_seed`, and compares its output with each different one before. Keeps each
+/// different output, and of no seed more than that. Reports progress after each seed.
 pub fn race_by_seeds<P: Progress>(
     alloc: Global,
     script: &[u8],
     seeds: SeedRange,
-    out: &mut Vec<u8>,
     progress: &mut P,
-) -> Result<SeedsVerdict, AllocError>
-    ensures text { OnOk result
-        (out.new.items ≡ out.old.items ++ seeds_printed (without_expects script.now) seeds) }
-    ensures verdict { IfOk result (λ verdict. verdict ≡ seeds_verdict script.now seeds) }
-    ensures err { OnErr result (out.new.items ≡ out.old.items) }
+) -> Result<Answer, AllocError>
+    ensures { IfOk result (λ answer. RacesSeeds seeds script.now (prints_of answer)) }
 {
     let kept = without_expects(alloc, script)?;
-    let mut text = Vec::new(alloc);
-    let good = print_outputs_of(alloc, &kept, seeds, &mut text, progress)?;
-    let verdict = if good {
-        verdicts(alloc, script, seeds, progress)?
-    } else {
-        SeedsVerdict {
-            first: Verdict::Refused,
-            failing: 0,
+    match read_race_script(alloc, &kept).err() {
+        None => {
+            let (outputs, verdict) = race_each(alloc, script, &kept, seeds, progress)?;
+            answer_of(alloc, seeds, &outputs, &verdict)
         }
-    };
-    out.extend_from_slice(&text)?;
-    Ok(verdict)
+        Some(ScriptError::Fault(fault)) => refused(alloc, script, fault),
+        Some(ScriptError::NoMemory) => Err(AllocError),
+    }
 }

@@ -13,14 +13,25 @@ use dma_work::{
 use std::alloc::Global;
 use std::marker::Brand;
 use std::process::Abort;
+use std::sync::atomic::AtomicU64;
 use std::sync::{Mutex, MutexGuard, Wait};
 use std::test::Fail;
 use std::thread;
 use std::thread::Threads;
+use std::time::Duration;
 
-// Asks for two statuses many times. Returns the reader, and whether it always knew both.
-fn ask_often(mut reader: StatusReader) -> (StatusReader, bool) {
-    let mut is_right = true;
+// Takes the desk's lock for longer than a worker sleeps before it waits in the lock's queue, and asks for a status
+// meanwhile; then asks for two statuses many times. Returns the reader, and whether it always knew them.
+fn ask_often<N: DeskName, R: Wait>(
+    rt: &R,
+    shared: &Shared<N>,
+    mut reader: StatusReader,
+) -> (StatusReader, bool) {
+    let desk = shared.desk().lock(rt);
+    // twice the sleeps of `dma_work/src/lock.rt`
+    AtomicU64::new(0).park_timeout(rt, 0, Duration::from_millis(20));
+    let mut is_right = reader.status(0, 1).is_some();
+    MutexGuard::unlock(desk);
     for _ in 0..10_000 {
         is_right &= reader.status(0, 1).is_some() && reader.status(1, 1).is_some();
     }
@@ -67,7 +78,7 @@ fn run_jobs<N: DeskName + Send + Sync, R: Threads + Wait + Sync + Abort + Print,
     let before = counts(rt, shared);
     let ((mut reader, is_right), tallies) = thread::join(
         rt,
-        move || ask_often(reader),
+        || ask_often(rt, shared, reader),
         || run_workers(rt, alloc, shared, &jobs, gate),
     );
     let tallies = match tallies {

@@ -194,8 +194,7 @@ module _ (bus : Bus) (program : List ℕ) (n : ℕ) where
 
   -- the front can execute the instruction
   pub can_here : (f : Front) (i : ChipInsn) → f ≡ front_at there → Follows i there → Fits i f.registers × (held_after i f.registers f.held ≤ buffer_size)
-  can_here f i at w =
-      rw at (w.fits, w.room)
+  can_here f i at w = rw at (w.fits, w.room)
 
   -- the loads and stores of an address, with one more instruction
   pub touches_on : (a : ℕ) (f : Front) (i : ChipInsn) (t u : Touches) → f ≡ front_at there → next_there ≡ Ok i → t ≡ touches_in bus program a n
@@ -209,5 +208,4 @@ pub cause_printed : (bus : Bus) (program : List ℕ) (u : Unexplained) (f : Fron
     → f ≡ front_at (traced (start_on bus) program u.steps) → first ≡ slice_get program f.registers.pc
     → next ≡ next_on f.registers.bus program f.registers.pc → t ≡ touches_in bus program u.addr u.steps
     → refusal_text (cause_text u.cause first next u.steps f ++ conflict_text u.cause u.addr t) first next u.steps f u.stored ≡ unexplained_text bus program u
-cause_printed bus program u f first next t at byte is touches =
-    rw (touches, byte, ← next_here bus program u.steps f next at is, at) refl
+cause_printed bus program u f first next t at byte is touches = rw (touches, byte, ← next_here bus program u.steps f next at is, at) refl

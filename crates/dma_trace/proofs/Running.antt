@@ -1,14 +1,15 @@
 -- A run of a trace, step after step.
-use Rattle.std.proofs.Common.{◌≡◌, ◌≢◌, ℕ, suc, ◌+◌, ◌-◌, ◌<◌, ◌≤◌, Bool, true, false, ◌&&◌, List, [], ◌∷◌, ◌++◌, length, map, Option, Some, None, Result, Ok}
+use Rattle.std.proofs.Common.{◌≡◌, ◌≢◌, ℕ, suc, ◌+◌, ◌<◌, ◌≤◌, Bool, true, false, List, ◌++◌, length, map, Option, Some, None, Result, Ok}
 use Rattle.std.proofs.Common.{refl, sym, ap, subst, ◌∙◌, arith, inl, inr, append_assoc, append-nil}
-use Rattle.std.specs.Prelude.{IsOk, flat_map, nat_le, nat_lt, slice_get}
+use Rattle.std.specs.Prelude.{IsOk, flat_map, nat_lt, slice_get}
 use Rattle.std.proofs.lemmas.Bool.{cases_lt, le-ltb, lt-ltb}
 use Rattle.dma_insn.specs.{Chip.spelling, declared.chip.ChipInsn.ChipInsn, AssemblyText.most_program_bytes}
-use Rattle.dma_mem.specs.Regions.{Piece, gaps_above, image_of, in_order, largest_end, pieces_of, read_only_of, rises_from}
-use Rattle.dma_mem.specs.{Flags.flags_of, Lent.marks_at, Lent.stores_at, Marking.MarkList, declared.regions.Region.Region, declared.segment.Segment.Segment}
+use Rattle.dma_mem.specs.Regions.{Piece, image_of, in_order, pieces_of, read_only_of}
+use Rattle.dma_mem.specs.{Flags.flags_of, Marking.MarkList, declared.regions.Region.Region, declared.segment.Segment.Segment}
 use Rattle.dma_chan.specs.{declared.turn.ChanTurn.ChanTurn, declared.turn.ChanTurn.TheVariants.Moved, declared.turn.FaultKind.FaultKind, Channel.ChannelValue}
 use Rattle.dma_chan.specs.{Channel.ahead_of, Channel.bytes_of_program, Channel.code_of, Channel.loaded_on, Exec.buffer_size, Exec.moved, Exec.start_on}
 use Rattle.dma_chan.specs.{LentRegions.segment_of, LentRegions.with_gaps_of, Stepping.Machine, Stepping.after_step, Stepping.after_steps, Stepping.answer_at}
+use Rattle.dma_explain.proofs.InOrder.{marks_kept}
 use Rattle.dma_trace.specs.Traced.{End, Shows, StopsAfter, dump_text, end_after, end_of, front_in, if_wave, last_answer, lines, marks_over, moment_in, opening}
 use Rattle.dma_trace.specs.Traced.{pieces_in, shown_line, tried, waveform}
 use Rattle.dma_trace.specs.inner.Running.{Ends, Fits, Goes, Runs, Waves, machine_over}
@@ -16,37 +17,6 @@ use Rattle.dma_trace.specs.{declared.front.Front.Front, declared.options.TraceOp
 use Rattle.dma_trace.specs.{Wave.last_text}
 use Rattle.dma_trace.proofs.Steps.{Moves, fetched_there, front_moves, moves_on, pc_fits, pieces_are, room_moves}
 use Rattle.dma_trace.proofs.Waves.{wave_ends}
-
--- ---- whether regions are in order, and the marks at their gaps, depend on their places alone
-
-abbrev rise : ℕ → List Segment → Bool
-rise at [] = true
-rise at (s ∷ ss) = nat_le at s.addr && (nat_le (s.addr + s.len) largest_end && rise (s.addr + s.len) ss)
-
-rise_is : (at : ℕ) (rs : List Region) → rises_from at (pieces_of rs) ≡ rise at (map segment_of rs)
-rise_is at [] = refl
-rise_is at (r ∷ rs) =
-    let end = (segment_of r).addr + (segment_of r).len in
-    ap (λ (b : Bool). nat_le at r.addr && (nat_le end largest_end && b)) (rise_is end rs)
-
-pub in_order_kept : (rs left : List Region) → map segment_of left ≡ map segment_of rs → in_order (pieces_of rs) ≡ true → in_order (pieces_of left) ≡ true
-in_order_kept rs left same order = rise_is 0 left ∙ ap (rise 0) same ∙ sym (rise_is 0 rs) ∙ order
-
-abbrev between : ℕ → List Segment → List Segment
-between at [] = []
-between at (s ∷ ss) = record { addr = at; len = s.addr - at } ∷ between (s.addr + s.len) ss
-
-between_is : (at : ℕ) (rs : List Region) → gaps_above at (pieces_of rs) ≡ between at (map segment_of rs)
-between_is at [] = refl
-between_is at (r ∷ rs) =
-    ap (λ (ss : List Segment). record { addr = at; len = r.addr - at } ∷ ss) (between_is ((segment_of r).addr + (segment_of r).len) rs)
-
-pub marks_kept : (rs left : List Region) (marks given : MarkList) → map segment_of left ≡ map segment_of rs → read_only_of left ≡ read_only_of rs
-    → given ≡ marks → with_gaps_of left given ≡ with_gaps_of rs marks
-marks_kept rs left marks given same access is =
-    ap (λ (ss : List Segment). marks_at ss ++ (stores_at (read_only_of left) ++ given)) (between_is 0 left ∙ ap (between 0) same ∙ sym (between_is 0 rs))
-    ∙ ap (λ (ss : List Segment). marks_at (gaps_above 0 (pieces_of rs)) ++ (stores_at ss ++ given)) access
-    ∙ ap (λ (ms : MarkList). marks_at (gaps_above 0 (pieces_of rs)) ++ (stores_at (read_only_of rs) ++ ms)) is
 
 -- ---- one more step
 
@@ -79,7 +49,7 @@ module _ {o : TraceOptions} {marks : MarkList} {first : List Region} {s : Machin
       → turn ≡ answer_at (with_gaps_of rs given) (machine_over c rs flags)
       → machine_over d left after ≡ after_step (with_gaps_of rs given) (machine_over c rs flags) → Took marks c d rs left flags after turn
   took given left same answer to =
-      let kept = marks_kept first rs given given w.places w.read_only refl ∙ sym same in
+      let kept = marks_kept first rs given w.places w.read_only ∙ sym same in
       record {
         answer = answer ∙ ap (λ (m : MarkList). answer_at m (machine_over c rs flags)) kept;
         to = to ∙ ap (λ (m : MarkList). after_step m (machine_over c rs flags)) kept;

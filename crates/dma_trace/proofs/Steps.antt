@@ -27,8 +27,7 @@ use Rattle.dma_trace.proofs.Fronts.{front_same, loads_long}
 pub one_step : (marks : MarkList) (s : Machine) (taken : ℕ) (last : Option ChanTurn) (turn : ChanTurn) (after : Machine) → TakesSteps marks s 1 taken last after
     → last ≡ Some turn → (turn ≡ answer_at marks s) × (after ≡ after_step marks s)
 one_step marks s zero last turn after t is = absurd (let e : Some turn ≡ None = sym is ∙ t.answer in cc)
-one_step marks s (suc zero) last turn after t is =
-    (let e : Some turn ≡ Some (answer_at marks s) = sym is ∙ t.answer in cc, t.ends_at)
+one_step marks s (suc zero) last turn after t is = (let e : Some turn ≡ Some (answer_at marks s) = sym is ∙ t.answer in cc, t.ends_at)
 one_step marks s (suc (suc k)) last turn after t is = absurd (omega (arith, steps_few t))
 
 never_none : (marks : MarkList) (s : Machine) (taken : ℕ) (last : Option ChanTurn) (after : Machine) → TakesSteps marks s 1 taken last after → last ≡ None
@@ -41,8 +40,7 @@ never_none marks s zero last after t is less =
         | inr e ↦ omega (arith, less, e, ap (λ (u : Machine). u.channel.taken) t.ends_at)
       ]
     ]
-never_none marks s (suc k) last after t is less =
-    let e : None ≡ Some (answer_at marks (after_steps marks s k)) = sym is ∙ t.answer in cc
+never_none marks s (suc k) last after t is less = let e : None ≡ Some (answer_at marks (after_steps marks s k)) = sym is ∙ t.answer in cc
 
 some_if : {X : Type 0} (o : Option X) → (o ≡ None → ⊥) → IsSome o
 some_if (Some x) f = refl
@@ -183,8 +181,7 @@ front_moves marks u i f g w at registers more =
 -- the buffer has room for what an instruction loads, if it is executed
 pub room_moves : (marks : MarkList) (u : Machine) (i : ChipInsn) (f : Front) → Moves i u.channel (after_step marks u).channel → f ≡ front_in u
     → held_after i f.registers f.held ≤ buffer_size
-room_moves marks u i f w at =
-    rw at (omega (arith, w.more, w.room))
+room_moves marks u i f w at = rw at (omega (arith, w.more, w.room))
 
 -- an instruction lies in its program
 no_next : (bus : Bus) (i : ChipInsn) → Ok i ≡ next_on bus [] 0 → ⊥

@@ -5,8 +5,9 @@ use Rattle.dma_insn.specs.AssemblyText.{most_program_bytes}
 use Rattle.dma_chan.specs.{declared.bus.Bus.Bus, Exec.start_on}
 use Rattle.dma_explain.specs.Explains.{Finds, Refuses, bursts_in, next_in, traced}
 use Rattle.dma_explain.specs.{declared.explain.Amounts.Amounts, declared.explain.BurstCounts.BurstCounts, declared.explain.Explained.Explained}
-use Rattle.dma_explain.specs.{declared.explain.Happening.Happening, declared.explain.Repeated.Repeated, declared.explain.Sync.Sync}
-use Rattle.dma_explain.specs.{declared.explain.Sync.TheVariants.Waits, declared.explain.Sync.TheVariants.Signals, declared.explain.Unexplained.Unexplained}
+use Rattle.dma_explain.specs.{declared.explain.Happening.Happening, declared.explain.Repeated.Repeated, declared.explain.EventSync.EventSync}
+use Rattle.dma_explain.specs.declared.explain.EventSync.TheVariants.{Waits, Signals}
+use Rattle.dma_explain.specs.{declared.explain.Unexplained.Unexplained}
 use Rattle.dma_trace.specs.Words.{bytes_text, cause_text, count_text, line_feed, long_text, range_text, refusal_text}
 use Rattle.dma_trace.specs.{Front.front_at, Touches.conflict_text, Touches.touches_in, Warnings.warnings_of, Warnings.warnings_text}
 
@@ -18,7 +19,7 @@ source_line r = codes "  from " ++ range_text r.addr r.len r.times ++ line_feed
 abbrev pub segment_line : List ℕ → Segment → List ℕ
 segment_line words s = words ++ range_text s.addr s.len 1 ++ line_feed
 
-abbrev pub sync_text : Sync → List ℕ
+abbrev pub sync_text : EventSync → List ℕ
 sync_text (Waits e) = codes "waits for event " ++ decimal e
 sync_text (Signals e) = codes "signals event " ++ decimal e
 

@@ -1,9 +1,9 @@
 //! Offsets, numbers of bytes and instructions, and ranges of addresses, as text.
 #![tactic(auto, using(dma_text::proofs::Begun::begins_same, dma_text::proofs::Begun::begins_appended, dma_text::proofs::Begun::begins_more))]
 
-ghost use Rattle.std.specs.Prelude.{◌≡◌, ◌≤◌};
+ghost use Rattle.std.specs.Prelude.{◌≡◌};
 ghost use Rattle.dma_chan.specs.Bursts.{span_of};
-ghost use Rattle.dma_chan.specs.inner.Spans.{MovesSome, rounds_of};
+ghost use Rattle.dma_chan.specs.inner.Spans.{IsBurst, rounds_of};
 ghost use Rattle.dma_trace.specs.Words.{bytes_text, count_text, offset_text, range_text, times_text};
 
 use dma_chan::bursts::Burst;
@@ -80,8 +80,7 @@ pub struct Range {
 impl Range {
     /// Returns the addresses that a burst touches, with how often it touches each of them.
     pub fn of(burst: Burst) -> Range
-        requires some { MovesSome burst }
-        requires limit { (burst.size ≤ 16) × (burst.beats ≤ 16) }
+        requires some { IsBurst burst }
         ensures { result ≡ record {
           addr = burst.addr;
           len = span_of burst;

@@ -23,7 +23,7 @@ use dma_chan::exec::Registers;
 use dma_chan::turn::FaultKind;
 use dma_explain::explain as runs;
 use dma_explain::explain::{
-    Amounts, BurstCounts, Cause, Explained, Happening, Repeated, Sync, Unexplained,
+    Amounts, BurstCounts, Cause, EventSync, Explained, Happening, Repeated, Unexplained,
 };
 use dma_insn::chip::{ChipInsn, decode_chip, decode_core};
 use dma_insn::codec::DecodeFault;
@@ -119,10 +119,10 @@ fn push_event(happening: Happening, out: &mut Vec<u8>) -> Result<(), AllocError>
 {
     let done = Done(happening.done);
     match happening.sync {
-        Sync::Waits(event) => {
+        EventSync::Waits(event) => {
             ("  after ", done, (": ", ("waits for event ", event), "\n")).push(out)
         }
-        Sync::Signals(event) => {
+        EventSync::Signals(event) => {
             ("  after ", done, (": ", ("signals event ", event), "\n")).push(out)
         }
     }

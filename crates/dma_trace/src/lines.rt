@@ -1,9 +1,9 @@
 //! The lines of a trace.
 #![tactic(auto, using(dma_text::proofs::Begun::begins_same, dma_text::proofs::Begun::begins_appended, dma_text::proofs::Begun::begins_more))]
 
-ghost use Rattle.std.specs.Prelude.{◌≡◌, ◌+◌, ◌++◌, ◌<◌, ◌≤◌, ◌^◌, OnOk, IfOk, take, flat_map};
+ghost use Rattle.std.specs.Prelude.{◌≡◌, ◌+◌, ◌++◌, ◌<◌, ◌^◌, OnOk, IfOk, take, flat_map};
 ghost use Rattle.dma_text.specs.Text.{Begins};
-ghost use Rattle.dma_chan.specs.inner.Spans.{MovesSome};
+ghost use Rattle.dma_chan.specs.inner.Spans.{IsBurst};
 ghost use Rattle.dma_mem.specs.Regions.{pieces_of, run_from};
 ghost use Rattle.dma_trace.specs.Traced.{burst_text, dump_text, line_text, moves_text, row_bytes, row_text, shown_line, step_text};
 
@@ -52,8 +52,7 @@ fn push_burst(
     regions: &[Region<'_>],
     out: &mut Vec<u8>,
 ) -> Result<(), AllocError>
-    requires some { MovesSome burst }
-    requires limit { (burst.size ≤ 16) × (burst.beats ≤ 16) }
+    requires some { IsBurst burst }
     ensures ok { OnOk result
         (out.new.items ≡ out.old.items ++ burst_text verb.now burst (pieces_of regions.now)) }
     ensures begins { Begins out.new.items out.old.items }

@@ -1,8 +1,8 @@
 //! Which instructions of a program load and store an address. DMASTZ stores too.
 #![tactic(auto, using(dma_text::proofs::Begun::begins_same, dma_text::proofs::Begun::begins_appended, dma_text::proofs::Begun::begins_more))]
 
-ghost use Rattle.std.specs.Prelude.{◌≡◌, ◌≤◌};
-ghost use Rattle.dma_chan.specs.inner.Spans.{MovesSome};
+ghost use Rattle.std.specs.Prelude.{◌≡◌};
+ghost use Rattle.dma_chan.specs.inner.Spans.{IsBurst};
 ghost use Rattle.dma_trace.specs.Touches.{access_text, after_touch, conflict_text, has_addr, untouched, with_load, with_store};
 
 use crate::amounts::Offset;
@@ -30,8 +30,7 @@ pub struct Touches {
 
 // Returns whether a burst touches an address.
 fn has_addr(burst: Burst, addr: u32) -> bool
-    requires some { MovesSome burst }
-    requires limit { (burst.size ≤ 16) × (burst.beats ≤ 16) }
+    requires some { IsBurst burst }
     ensures { result ≡ has_addr burst addr }
 {
     burst.addr <= addr && addr - burst.addr < burst.span().len

@@ -7,12 +7,10 @@ use Rattle.std.proofs.lemmas.Bool.{cases_Bool, cases_lt, cases_order, cond_both,
 use Rattle.std.proofs.lemmas.List.Elements.{All-append, All-cons, All-nil, All-weaker}
 use Rattle.std.proofs.{lemmas.List.get_or_past, lemmas.Option.slice_get_within}
 use Rattle.dma_insn.specs.declared.chip.ChipInsn.{ChipInsn}
-use Rattle.dma_insn.specs.declared.chip.ChipInsn.TheVariants.{Ld, St, Wfe}
-use Rattle.dma_mem.specs.{Places.Descriptor, Places.is_free_of, Marking.meets_mark, declared.marks.MarkKind.TheVariants.Reading}
-use Rattle.dma_mem.specs.{declared.marks.MarkKind.TheVariants.Writing}
-use Rattle.dma_chan.specs.Traffic.{member, read_places, written_places}
-use Rattle.dma_engine.specs.declared.turn.Turn.TheVariants.{Halted, Paused, Waiting}
-use Rattle.dma_engine.specs.Object.{channel, empty_channel, front, is_set, issued_front, unfinished}
+use Rattle.dma_mem.specs.{Places.Descriptor, Places.is_free_of}
+use Rattle.dma_chan.specs.Traffic.{member}
+use Rattle.dma_engine.specs.declared.turn.Turn.TheVariants.{Halted, Paused}
+use Rattle.dma_engine.specs.Object.{channel, empty_channel, front, issued_front, unfinished}
 use Rattle.dma_engine.specs.Turn.{Stepped, first_conflicting, front_turn, insn_turn, last_step, start_turn, turn}
 use Rattle.dma_engine.specs.View.{RunningTransfer, View, channels, object_of, running, schedule_at}
 use Rattle.dma_engine.specs.{declared.fault.EngineFault.EngineFault, declared.fault.EngineFault.TheVariants.StepsSpent, declared.turn.Turn.Turn, Room.IsIdle}
@@ -21,7 +19,7 @@ use Rattle.dma_why.specs.Laws.{AreNotOnOneChannel, CausesAreNamed, IsCause}
 use Rattle.dma_why.specs.Waits.{event_wait, holder, holders, holders_of, signallers, waits_by, waits_of}
 use Rattle.dma_why.specs.{declared.waits.Cookie.Cookie, declared.waits.Wait.Wait, Circles.IsWay, Circles.circle_from}
 use Rattle.dma_why.proofs.ViewWaits.{holder_holds, runs_named, says, signaller_would, wait_of_view, wait_says, waits_below}
-use Rattle.dma_why.proofs.{CircleLemmas.circle_found, Members.filter_map_in, Members.in_find, Members.in_first, Members.in_rest, Members.map_in}
+use Rattle.dma_why.proofs.{CircleLemmas.circle_found, Members.filter_map_in, Members.in_find, Members.in_first, Members.in_rest, Members.map_in, TurnParts.insn_idle}
 
 -- ---- a channel whose step changes nothing has a cause, or waits for another
 
@@ -45,15 +43,8 @@ why_event ch event (x ∷ xs) = elim (cases_Bool (list_all (λ c. c.ch == x.ch) 
 ]
 
 insn_why : (v : View) (ch n : ℕ) (t : Descriptor) (i : ChipInsn) → IsIdle (insn_turn v ch t n i).0 → Why v ch (insn_turn v ch t n i).0
-insn_why v ch n t Ld =
-    cond_both {A = Stepped} (meets_mark Reading (object_of v).marks (read_places t n)) _ _ (λ x. IsIdle x.0 → Why v ch x.0) (λ _ h. absurd h) (λ _ h. absurd h)
-insn_why v ch n t St =
-    cond_both {A = Stepped} (meets_mark Writing (object_of v).marks (written_places t n)) _ _ (λ x. IsIdle x.0 → Why v ch x.0) (λ _ h. absurd h)
-    (λ _ h. absurd h)
-insn_why v ch n t (Wfe event invalid) =
-    cond_both {A = Stepped} (is_set (object_of v) event) _ (Ok (Waiting event), v) (λ x. IsIdle x.0 → Why v ch x.0) (λ _ h. absurd h)
-    (λ _ _. why_event ch event (signallers (object_of v) event))
-insn_why v ch n t i = λ h. absurd h
+insn_why v ch n t i h =
+    let idle = insn_idle v ch n t i h in subst (Why v ch) (sym idle.turned) (why_event ch idle.event (signallers (object_of v) idle.event))
 
 -- a front that is held: by the first that it isn't free of, among others
 start_why : (v : View) (ch : ℕ) (t : Descriptor) (x : Option RunningTransfer) → front (channel (object_of v) ch) ≡ Some t → first_conflicting v t ≡ x
@@ -142,6 +133,20 @@ on v low w i above r = record {
   cause = r.cause;
 }
 
+-- a way over channels above `low` leads on over those from `low` on, or to `low`
+lower : (v : View) (low ch : ℕ) (r : Leads v (low + 1) ch) → Leads v low ch ⊎ ((r.end ≡ low) × (0 < unfinished (channel (object_of v) r.end)))
+lower v low ch r =
+    let above = All-weaker (λ x. low + 1 ≤ x.ch) (λ x. low ≤ x.ch) (λ x h. omega (arith, h)) r.way r.above in
+    let on : Done v r.end ⊎ ((r.end < low) × (0 < unfinished (channel (object_of v) r.end))) → Leads v low ch = λ cause.
+    record { end = r.end; way = r.way; waits = r.waits; leads = r.leads; above = above; cause = cause } in
+    elim r.cause [
+      | inl done ↦ inl (on (inl done))
+      | inr past ↦ elim (cases_lt r.end low) [
+        | inl less ↦ inl (on (inr (less, past.1)))
+        | inr same ↦ inr (omega (arith, same, past.0), past.1)
+      ]
+    ]
+
 -- a way back is a circle
 circle_done : (v : View) (low : ℕ) (w : Wait) (way : List Wait) → Contains (waits_of v) w → w.ch ≡ low → All (Contains (waits_of v)) way → IsWay w.by.ch low way
     → All (λ x. low + 1 ≤ x.ch) way → Done v low
@@ -159,20 +164,11 @@ from_low v low idle later works = elim (why v low works (idle low)) [
   | inr f ↦ by_wait f.0 (wait_of_view v low f.0 (works_there v low works) f.1) (says v low (turn v low).0 f.0 f.1).0
 ] where
   after : (w : Wait) → Contains (waits_of v) w → w.ch ≡ low → Leads v (low + 1) w.by.ch → Leads v low low
-  after w i here r =
-      let wider = All-weaker (λ x. low + 1 ≤ x.ch) (λ x. low ≤ x.ch) (λ x h. omega (arith, h)) r.way r.above in
-      let go : Done v r.end ⊎ ((r.end < low) × (0 < unfinished (channel (object_of v) r.end))) → Leads v low low = λ cause.
-      subst (Leads v low) here (on v low w i (omega (arith, here))
-      (record { end = r.end; way = r.way; waits = r.waits; leads = r.leads; above = wider; cause = cause })) in
-      elim r.cause [
-        | inl done ↦ go (inl done)
-        | inr past ↦ elim (cases_lt r.end low) [
-          | inl less ↦ go (inr (less, past.1))
-          | inr same ↦
-              let back : r.end ≡ low = omega (arith, same, past.0) in
-              at_once v low low (circle_done v low w r.way i here r.waits (subst (λ c. IsWay w.by.ch c r.way) back r.leads) r.above)
-        ]
-      ]
+  after w i here r = elim (lower v low w.by.ch r) [
+    | inl l ↦ subst (Leads v low) here (on v low w i (omega (arith, here)) l)
+    | inr back ↦
+        at_once v low low (circle_done v low w r.way i here r.waits (subst (λ c. IsWay w.by.ch c r.way) back.0 r.leads) r.above)
+  ]
 
   by_wait : (w : Wait) → Contains (waits_of v) w → w.ch ≡ low → Leads v low low
   by_wait w i here = elim (cases_order w.by.ch low) [
@@ -191,42 +187,34 @@ from_low v low idle later works = elim (why v low works (idle low)) [
     | inr (inr more) ↦ after w i here (later w.by.ch more (wait_works v w i))
   ]
 
--- from each channel from `low` on, if each higher one leads on
-from_above : (v : View) (low : ℕ) → ((ch : ℕ) → IsIdle (turn v ch).0) → ((ch : ℕ) → low < ch → 0 < unfinished (channel (object_of v) ch) → Leads v (low + 1) ch)
-    → (ch : ℕ) → low ≤ ch → 0 < unfinished (channel (object_of v) ch) → Leads v low ch
-from_above v low idle later ch above works = by (cases_lt low ch) where
-  by : (low < ch) ⊎ (ch ≤ low) → Leads v low ch
-  by (inr same) =
-      let here : ch ≡ low = omega (arith, same, above) in
-      subst (Leads v low) (sym here) (from_low v low idle later (subst (λ c. 0 < unfinished (channel (object_of v) c)) here works))
-  by (inl less) =
-      let r = later ch less works in
-      let wider = All-weaker (λ x. low + 1 ≤ x.ch) (λ x. low ≤ x.ch) (λ x h. omega (arith, h)) r.way r.above in
-      let still : Done v r.end ⊎ ((r.end < low) × (0 < unfinished (channel (object_of v) r.end))) → Leads v low ch = λ cause.
-      record { end = r.end; way = r.way; waits = r.waits; leads = r.leads; above = wider; cause = cause } in
-      elim r.cause [
-        | inl done ↦ still (inl done)
-        | inr past ↦ elim (cases_lt r.end low) [
-          | inl lower ↦ still (inr (lower, past.1))
-          | inr same ↦
-              let back : r.end ≡ low = omega (arith, same, past.0) in
-              let l = from_low v low idle later (subst (λ c. 0 < unfinished (channel (object_of v) c)) back past.1) in
-              record {
-                end = l.end;
-                way = r.way ++ l.way;
-                waits = All-append (Contains (waits_of v)) r.way l.way r.waits l.waits;
-                leads = way_joined ch low l.end r.way l.way (subst (λ c. IsWay ch c r.way) back r.leads) l.leads;
-                above = All-append (λ x. low ≤ x.ch) r.way l.way wider l.above;
-                cause = l.cause;
-              }
-        ]
-      ]
-
+-- from each channel from `low` on
 all_lead : (v : View) → ((ch : ℕ) → IsIdle (turn v ch).0) → (n low : ℕ) → low + n ≡ channels v → (ch : ℕ) → low ≤ ch → 0 < unfinished (channel (object_of v) ch)
     → Leads v low ch
 all_lead v idle zero low m ch above works = absurd (omega (arith, works_there v ch works, above, m))
 all_lead v idle (suc n) low m ch above works =
-    from_above v low idle (λ d less there. all_lead v idle n (low + 1) (omega (arith, m)) d (omega (arith, less)) there) ch above works
+    let later : (d : ℕ) → low < d → 0 < unfinished (channel (object_of v) d) → Leads v (low + 1) d = λ d less there.
+    all_lead v idle n (low + 1) (omega (arith, m)) d (omega (arith, less)) there in
+    elim (cases_lt low ch) [
+      | inr same ↦
+          let here : ch ≡ low = omega (arith, same, above) in
+          subst (Leads v low) (sym here) (from_low v low idle later (subst (λ c. 0 < unfinished (channel (object_of v) c)) here works))
+      | inl less ↦
+          let r = later ch less works in
+          elim (lower v low ch r) [
+            | inl l ↦ l
+            | inr back ↦
+                let l = from_low v low idle later (subst (λ c. 0 < unfinished (channel (object_of v) c)) back.0 back.1) in
+                record {
+                  end = l.end;
+                  way = r.way ++ l.way;
+                  waits = All-append (Contains (waits_of v)) r.way l.way r.waits l.waits;
+                  leads = way_joined ch low l.end r.way l.way (subst (λ c. IsWay ch c r.way) back.0 r.leads) l.leads;
+                  above = All-append (λ x. low ≤ x.ch) r.way l.way
+                      (All-weaker (λ x. low + 1 ≤ x.ch) (λ x. low ≤ x.ch) (λ x h. omega (arith, h)) r.way r.above) l.above;
+                  cause = l.cause;
+                }
+          ]
+    ]
 
 pub causes_are_named : CausesAreNamed
 causes_are_named v idle ch works =

@@ -32,10 +32,7 @@ pub record LeavesView (v w : View) (ch : ℕ) : Type 0 where
 
 -- ---- the entries of steps
 
--- a channel that has passed, signalled or finished
-would_passed : (c : ChannelState) (event number : ℕ) → WouldBy (record c { passed = true }) event number → WouldBy c event number
-would_passed c event number h = h
-
+-- a channel that has signalled or finished
 would_signalled : (c : ChannelState) (event number : ℕ) → c.signalled ≡ false → WouldBy (record c { signalled = true }) event number → WouldBy c event number
 would_signalled c event number not_yet h =
     let parts = and_parts (not (c.halted || (number == finished c + 1))) (signals event (transfer_in c number)) h.2 in
@@ -70,47 +67,38 @@ flag_cleared events event e clear = elim (cases_eq e event) [
   ]
 ]
 
+-- one channel has another state
+leaves_set : (o p : Object) (ch : ℕ) (d : ChannelState) → p.channels ≡ slice_set o.channels ch d → ch < length o.channels
+    → ((event number : ℕ) → WouldBy d event number → WouldBy (channel o ch) event number)
+    → ((event : ℕ) → is_set o event ≡ false → (is_set p event ≡ false) ⊎ ((number : ℕ) × WouldBy (channel o ch) event number)) → Leaves o p ch
+leaves_set o p ch d is less fewer clear =
+    let at : (k : ℕ) → channel p k ≡ slice_index_or (slice_set o.channels ch d) k empty_channel = λ k. ap (λ l. slice_index_or l k empty_channel) is in
+    record {
+      many = ap length is ∙ length-set o.channels ch d;
+      others = λ k g. at k ∙ get_or-set_other o.channels ch k d empty_channel g;
+      fewer = λ e n h. fewer e n (subst (λ x. WouldBy x e n) (at ch ∙ get_or-set_same o.channels ch d empty_channel less) h);
+      clear = clear;
+    }
+
 leaves_passed : (o : Object) (ch event : ℕ) → ch < length o.channels → Leaves o (after o (Passed ch event)) ch
 leaves_passed o ch event less =
-    let c = channel o ch in
-    let d : ChannelState = record c { passed = true } in
-    let here = get_or-set_same o.channels ch d empty_channel less in
-    record {
-      many = length-set o.channels ch d;
-      others = λ k g. get_or-set_other o.channels ch k d empty_channel g;
-      fewer = λ e n h. would_passed c e n (subst (λ x. WouldBy x e n) here h);
-      clear = λ e clear. inl (flag_cleared o.events event e clear);
-    }
+    leaves_set o _ ch (record (channel o ch) { passed = true }) refl less (λ e n h. h) (λ e clear. inl (flag_cleared o.events event e clear))
 
 leaves_signalled : (o : Object) (ch event : ℕ) → ch < length o.channels → Allows o (Signalled (Channel ch) event)
     → Leaves o (after o (Signalled (Channel ch) event)) ch
 leaves_signalled o ch event less may =
     let c = channel o ch in
-    let d : ChannelState = record c { signalled = true } in
-    let here = get_or-set_same o.channels ch d empty_channel less in
     let f = front_where c _ may.1 in
-    record {
-      many = length-set o.channels ch d;
-      others = λ k g. get_or-set_other o.channels ch k d empty_channel g;
-      fewer = λ e n h. would_signalled c e n f.holds.2 (subst (λ x. WouldBy x e n) here h);
-      clear = λ e clear. elim (cases_eq e event) [
-        | inr other ↦ inl (get_or-set_other o.events event e true false other ∙ clear)
-        | inl same ↦ inr (finished c + 1, front_would c e f.transfer may.0 f.holds.2 f.is f.within (f.holds.1 ∙ ap (λ k. Some k) (sym same)))
-      ];
-    }
+    leaves_set o _ ch (record c { signalled = true }) refl less (λ e n. would_signalled c e n f.holds.2) (λ e clear. elim (cases_eq e event) [
+      | inr other ↦ inl (get_or-set_other o.events event e true false other ∙ clear)
+      | inl same ↦ inr (finished c + 1, front_would c e f.transfer may.0 f.holds.2 f.is f.within (f.holds.1 ∙ ap (λ k. Some k) (sym same)))
+    ])
 
 leaves_finished : (o : Object) (ch : ℕ) (how : TransResult) (done : ℕ) → ch < length o.channels → (channel o ch).halted ≡ false
     → Leaves o (after o (Finished ch how done)) ch
 leaves_finished o ch how done less goes =
     let c = channel o ch in
-    let d = with_outcome c how done in
-    let here = get_or-set_same o.channels ch d empty_channel less in
-    record {
-      many = length-set o.channels ch d;
-      others = λ k g. get_or-set_other o.channels ch k d empty_channel g;
-      fewer = λ e n h. would_finished c how done e n goes (subst (λ x. WouldBy x e n) here h);
-      clear = λ e clear. inl clear;
-    }
+    leaves_set o _ ch (with_outcome c how done) refl less (λ e n. would_finished c how done e n goes) (λ e clear. inl clear)
 
 -- ---- a step
 

@@ -1,5 +1,5 @@
 -- What holds of a channel whose next step is held or waits.
-use Rattle.std.proofs.Common.{◌≡◌, ℕ, ◌<◌, Option, Some, None, Bool, false, refl, ap, sym, ◌∙◌}
+use Rattle.std.proofs.Common.{◌≡◌, ℕ, ◌<◌, Option, Some, None, Bool, false, refl, ap, sym, ◌∙◌, subst}
 use Rattle.std.specs.Prelude.{◌==◌, if◌then◌else◌, nat_le, Result, Ok, Err}
 use Rattle.std.proofs.lemmas.Bool.{cond_both, leb-false}
 use Rattle.dma_insn.specs.declared.chip.ChipInsn.{ChipInsn}
@@ -10,7 +10,7 @@ use Rattle.dma_engine.specs.declared.turn.Turn.TheVariants.{Halted, Held, Paused
 use Rattle.dma_engine.specs.Turn.{Stepped, first_conflicting, front_turn, insn_turn, last_step, start_turn, turn}
 use Rattle.dma_engine.specs.View.{RunningTransfer, View, channels, object_of, schedule_at}
 use Rattle.dma_engine.specs.{declared.fault.EngineFault.EngineFault, declared.fault.EngineFault.TheVariants.NoChannel}
-use Rattle.dma_engine.specs.{declared.fault.EngineFault.TheVariants.StepsSpent, declared.turn.Turn.Turn, Object.channel, Object.is_set, Object.issued_front}
+use Rattle.dma_engine.specs.{declared.fault.EngineFault.TheVariants.StepsSpent, declared.turn.Turn.Turn, Room.IsIdle, Object.channel, Object.is_set, Object.issued_front}
 
 -- ---- the first tests
 
@@ -36,18 +36,34 @@ front_turned v ch r is not_none not_halted not_paused =
     (λ active e. record { there = leb-false (channels v) ch there; goes = goes; active = active; turned = e })))
     is
 
+-- ---- an instruction that changes nothing
+
+-- It waits for an event.
+pub record Idles (v : View) (i : ChipInsn) (r : Result Turn EngineFault) : Type 0 where
+  pub event : ℕ
+  pub invalid : Bool
+  pub is : i ≡ Wfe event invalid
+  pub clear : is_set (object_of v) event ≡ false
+  pub turned : r ≡ Ok (Waiting event)
+
+pub insn_idle : (v : View) (ch n : ℕ) (t : Descriptor) (i : ChipInsn) → IsIdle (insn_turn v ch t n i).0 → Idles v i (insn_turn v ch t n i).0
+insn_idle v ch n t Ld =
+    cond_both {A = Stepped} (meets_mark Reading (object_of v).marks (read_places t n)) _ _ (λ x. IsIdle x.0 → Idles v Ld x.0) (λ _ h. absurd h) (λ _ h. absurd h)
+insn_idle v ch n t St =
+    cond_both {A = Stepped} (meets_mark Writing (object_of v).marks (written_places t n)) _ _ (λ x. IsIdle x.0 → Idles v St x.0) (λ _ h. absurd h)
+    (λ _ h. absurd h)
+insn_idle v ch n t (Wfe event invalid) =
+    cond_both {A = Stepped} (is_set (object_of v) event) _ (Ok (Waiting event), v) (λ x. IsIdle x.0 → Idles v (Wfe event invalid) x.0) (λ _ h. absurd h)
+    (λ clear _. record { event = event; invalid = invalid; is = refl; clear = clear; turned = refl })
+insn_idle v ch n t i = λ h. absurd h
+
 -- ---- a held front
 
 insn_not_held : (v : View) (ch n : ℕ) (t : Descriptor) (i : ChipInsn) (other cookie : ℕ) → (insn_turn v ch t n i).0 ≡ Ok (Held other cookie) → ⊥
-insn_not_held v ch n t Ld other cookie =
-    cond_both {A = Stepped} (meets_mark Reading (object_of v).marks (read_places t n)) _ _ (λ x. x.0 ≡ Ok (Held other cookie) → ⊥) (λ _ e. absurd cc)
-    (λ _ e. absurd cc)
-insn_not_held v ch n t St other cookie =
-    cond_both {A = Stepped} (meets_mark Writing (object_of v).marks (written_places t n)) _ _ (λ x. x.0 ≡ Ok (Held other cookie) → ⊥) (λ _ e. absurd cc)
-    (λ _ e. absurd cc)
-insn_not_held v ch n t (Wfe event invalid) other cookie =
-    cond_both {A = Stepped} (is_set (object_of v) event) _ (Ok (Waiting event), v) (λ x. x.0 ≡ Ok (Held other cookie) → ⊥) (λ _ e. absurd cc) (λ _ e. absurd cc)
-insn_not_held v ch n t i other cookie = λ e. absurd cc
+insn_not_held v ch n t i other cookie e =
+    let idle = insn_idle v ch n t i (subst IsIdle (sym e) tt) in
+    let never : Ok (Waiting idle.event) ≡ Ok (Held other cookie) = sym idle.turned ∙ e in
+    absurd cc
 
 pub held_front : (v : View) (ch : ℕ) (x : Option Descriptor) (taken : Option ℕ) (other cookie : ℕ) → (front_turn v ch x taken).0 ≡ Ok (Held other cookie)
     → (t : Descriptor) × (x ≡ Some t) × (taken ≡ None)
@@ -68,17 +84,11 @@ abbrev Waits : View → ℕ → ChipInsn → Type 0
 Waits v event i = (invalid : Bool) × (i ≡ Wfe event invalid) × (is_set (object_of v) event ≡ false)
 
 insn_waits : (v : View) (ch n event : ℕ) (t : Descriptor) (i : ChipInsn) → (insn_turn v ch t n i).0 ≡ Ok (Waiting event) → Waits v event i
-insn_waits v ch n event t Ld =
-    cond_both {A = Stepped} (meets_mark Reading (object_of v).marks (read_places t n)) _ _ (λ x. x.0 ≡ Ok (Waiting event) → Waits v event Ld) (λ _ e. absurd cc)
-    (λ _ e. absurd cc)
-insn_waits v ch n event t St =
-    cond_both {A = Stepped} (meets_mark Writing (object_of v).marks (written_places t n)) _ _ (λ x. x.0 ≡ Ok (Waiting event) → Waits v event St)
-    (λ _ e. absurd cc) (λ _ e. absurd cc)
-insn_waits v ch n event t (Wfe other invalid) =
-    cond_both {A = Stepped} (is_set (object_of v) other) _ (Ok (Waiting other), v) (λ x. x.0 ≡ Ok (Waiting event) → Waits v event (Wfe other invalid))
-    (λ _ e. absurd cc)
-    (λ clear e. let same : other ≡ event = cc in (invalid, ap (λ k. Wfe k invalid) same, ap (is_set (object_of v)) (sym same) ∙ clear))
-insn_waits v ch n event t i = λ e. absurd cc
+insn_waits v ch n event t i e =
+    let idle = insn_idle v ch n t i (subst IsIdle (sym e) tt) in
+    let both : Ok (Waiting idle.event) ≡ Ok (Waiting event) = sym idle.turned ∙ e in
+    let same : idle.event ≡ event = cc in
+    (idle.invalid, idle.is ∙ ap (λ k. Wfe k idle.invalid) same, ap (is_set (object_of v)) (sym same) ∙ idle.clear)
 
 pub waiting_front : (v : View) (ch event : ℕ) (x : Option Descriptor) (taken : Option ℕ) → (front_turn v ch x taken).0 ≡ Ok (Waiting event) → (t : Descriptor)
     × (n : ℕ) × (x ≡ Some t) × (taken ≡ Some n) × Waits v event (member t n)

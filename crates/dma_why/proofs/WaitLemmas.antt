@@ -1,8 +1,8 @@
 -- Lists of cookies, of waits and of channels, one more at a time.
-use Rattle.std.proofs.Common.{◌≡◌, ℕ, ◌+◌, List, [], ◌∷◌, ◌++◌, map, zero-add, Bool, true, false, refl, ap, sym, subst, ◌∙◌, append_assoc, append-nil, Option}
+use Rattle.std.proofs.Common.{◌≡◌, ℕ, ◌+◌, List, [], ◌∷◌, ◌++◌, map, zero-add, Bool, true, false, refl, ap, sym, ◌∙◌, append_assoc, append-nil, Option}
 use Rattle.std.proofs.Common.{Some, None}
 use Rattle.std.specs.List.{cons_option, filter, filter_map, flat_map, list_all, range_with_len}
-use Rattle.std.specs.{Prelude.◌==◌, Prelude.slice_get, Option.option_and_then, Option.option_to_list}
+use Rattle.std.specs.{Prelude.◌==◌, Prelude.if◌then◌else◌, Prelude.slice_get, Option.option_and_then, Option.option_to_list}
 use Rattle.std.proofs.{lemmas.List.flat_map_more, lemmas.List.map-append, lemmas.List.Concat.flat_map-append, lemmas.List.Elements.filter-append}
 use Rattle.std.proofs.{lemmas.List.Elements.filter_map-append}
 use Rattle.dma_io.specs.Command.{text_of}
@@ -16,15 +16,24 @@ pub range_more : (a n : ℕ) → range_with_len a (n + 1) ≡ range_with_len a n
 range_more a n = range_with_len_add a n 1
 
 -- the numbers of a range that pass a test, each as a value, and those of one more number
-pub kept_more : {X : Type 0} (mk : ℕ → X) (p : ℕ → Bool) (before : List X) (a n k : ℕ) → a + n ≡ k
-    → (before ++ map mk (filter p (range_with_len a n))) ++ map mk (filter p (k ∷ [])) ≡ before ++ map mk (filter p (range_with_len a (n + 1)))
-kept_more mk p before a n k is =
-    let kept = filter p (range_with_len a n) in
-    append_assoc before (map mk kept) (map mk (filter p (k ∷ [])))
-    ∙ ap (λ l. before ++ l) (sym (map-append mk kept (filter p (k ∷ []))))
-    ∙ ap (λ l. before ++ map mk l) (sym (filter-append p (range_with_len a n) (k ∷ [])))
-    ∙ ap (λ j. before ++ map mk (filter p (range_with_len a n ++ j ∷ []))) (sym is)
-    ∙ ap (λ l. before ++ map mk (filter p l)) (sym (range_more a n))
+module _ {X : Type 0} (mk : ℕ → X) (p : ℕ → Bool) (before found : List X) (a n k m : ℕ)
+    (so_far : found ≡ before ++ map mk (filter p (range_with_len a n))) (is : a + n ≡ k) (next : m ≡ n + 1) where
+  kept_more : found ++ map mk (filter p (k ∷ [])) ≡ before ++ map mk (filter p (range_with_len a m))
+  kept_more =
+      let kept = filter p (range_with_len a n) in
+      ap (λ l. l ++ map mk (filter p (k ∷ []))) so_far
+      ∙ append_assoc before (map mk kept) (map mk (filter p (k ∷ [])))
+      ∙ ap (λ l. before ++ l) (sym (map-append mk kept (filter p (k ∷ []))))
+      ∙ ap (λ l. before ++ map mk l) (sym (filter-append p (range_with_len a n) (k ∷ [])))
+      ∙ ap (λ j. before ++ map mk (filter p (range_with_len a n ++ j ∷ []))) (sym is)
+      ∙ ap (λ l. before ++ map mk (filter p l)) (sym (ap (range_with_len a) next ∙ range_more a n))
+
+  -- where that number passes, and where it doesn't
+  pub kept_pass : p k ≡ true → found ++ mk k ∷ [] ≡ before ++ map mk (filter p (range_with_len a m))
+  kept_pass pass = rw pass at kept_more
+
+  pub kept_fail : p k ≡ false → found ≡ before ++ map mk (filter p (range_with_len a m))
+  kept_fail fail = sym (append-nil found) ∙ rw fail at kept_more
 
 -- what follows of one channel more
 pub channels_more : {X : Type 0} (f : ℕ → List X) (before : List X) (n : ℕ)
@@ -33,23 +42,6 @@ channels_more f before n =
     flat_map_more f before (range_with_len 0 n) n
     ∙ ap (λ k. before ++ flat_map f (range_with_len 0 n ++ k ∷ [])) (sym (zero-add n))
     ∙ ap (λ l. before ++ flat_map f l) (sym (range_more 0 n))
-
--- the same where the number passes, and where it doesn't
-pub kept_pass : {X : Type 0} (mk : ℕ → X) (p : ℕ → Bool) (before found : List X) (a n k m : ℕ) → found ≡ before ++ map mk (filter p (range_with_len a n))
-    → a + n ≡ k → m ≡ n + 1 → p k ≡ true → found ++ mk k ∷ [] ≡ before ++ map mk (filter p (range_with_len a m))
-kept_pass mk p before found a n k m so_far is next pass =
-    let one : filter p (k ∷ []) ≡ k ∷ [] = rw pass refl in
-    ap (λ l. l ++ mk k ∷ []) so_far
-    ∙ ap (λ l. (before ++ map mk (filter p (range_with_len a n))) ++ map mk l) (sym one)
-    ∙ kept_more mk p before a n k is ∙ ap (λ j. before ++ map mk (filter p (range_with_len a j))) (sym next)
-
-pub kept_fail : {X : Type 0} (mk : ℕ → X) (p : ℕ → Bool) (before found : List X) (a n k m : ℕ) → found ≡ before ++ map mk (filter p (range_with_len a n))
-    → a + n ≡ k → m ≡ n + 1 → p k ≡ false → found ≡ before ++ map mk (filter p (range_with_len a m))
-kept_fail mk p before found a n k m so_far is next fail =
-    let none : filter p (k ∷ []) ≡ [] = rw fail refl in
-    so_far ∙ sym (append-nil _)
-    ∙ ap (λ l. (before ++ map mk (filter p (range_with_len a n))) ++ map mk l) (sym none)
-    ∙ kept_more mk p before a n k is ∙ ap (λ j. before ++ map mk (filter p (range_with_len a j))) (sym next)
 
 -- the text of one channel more
 pub text_more : (f : ℕ → List (List ℕ)) (before now new : List ℕ) (n : ℕ) → now ≡ before ++ text_of (flat_map f (range_with_len 0 n))
@@ -67,22 +59,13 @@ items_more f now new n so_far more = more ∙ ap (λ l. l ++ f n) so_far ∙ cha
 
 -- ---- the wait for an event
 
--- if all cookies that would signal it are on one channel, or not
-pub one_wait : (ch event : ℕ) (found : List Cookie) (by : Cookie) → Some by ≡ slice_get found 0 → list_all (λ c. c.ch == by.ch) found ≡ true
-    → record { ch = ch; event = Some event; by = by } ∷ [] ≡ event_wait ch event found
-one_wait ch event [] by first all = absurd cc
-one_wait ch event (x ∷ xs) by first all =
+-- by whether all cookies that would signal it are on one channel
+pub waits_for : (ch event : ℕ) (found : List Cookie) (by : Cookie) → Some by ≡ slice_get found 0
+    → (if list_all (λ c. c.ch == by.ch) found then record { ch = ch; event = Some event; by = by } ∷ [] else []) ≡ event_wait ch event found
+waits_for ch event [] by first = absurd cc
+waits_for ch event (x ∷ xs) by first =
     let same : by ≡ x = cc in
-    let one : list_all (λ c. c.ch == x.ch) (x ∷ xs) ≡ true = subst (λ y. list_all (λ c. c.ch == y.ch) (x ∷ xs) ≡ true) same all in
-    rw (same, one) refl
-
-pub no_wait : (ch event : ℕ) (found : List Cookie) (by : Cookie) → Some by ≡ slice_get found 0 → list_all (λ c. c.ch == by.ch) found ≡ false
-    → [] ≡ event_wait ch event found
-no_wait ch event [] by first all = absurd cc
-no_wait ch event (x ∷ xs) by first all =
-    let same : by ≡ x = cc in
-    let other : list_all (λ c. c.ch == x.ch) (x ∷ xs) ≡ false = subst (λ y. list_all (λ c. c.ch == y.ch) (x ∷ xs) ≡ false) same all in
-    rw other refl
+    ap (λ (y : Cookie). if list_all (λ c. c.ch == y.ch) (x ∷ xs) then record { ch = ch; event = Some event; by = y } ∷ [] else []) same
 
 -- ---- the fronts that hold a transfer
 

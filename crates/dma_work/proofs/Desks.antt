@@ -10,10 +10,10 @@ use Rattle.dma_mem.specs.{Places.Descriptor, declared.call.Call.Call}
 use Rattle.dma_engine.specs.declared.call.Reply.TheVariants.{Cookie, Count, Done, Refused, Turned}
 use Rattle.dma_engine.specs.Advance.{IsAdvance, finishes_counted, steps_counted, ticks_counted}
 use Rattle.dma_engine.specs.Answer.{CallAnswers, StepAnswers, checkpoint_fault, checkpointed, reply_of, submit_fault, unless}
-use Rattle.dma_engine.specs.Object.{Object, channel, empty_channel, forget, used}
+use Rattle.dma_engine.specs.Object.{Object, empty_channel, forget, used}
 use Rattle.dma_engine.specs.Ticks.{Tick, Submitted, Finished, Board, Counts, added_up, board_after, board_of, counts, counts_of, no_counts, tick_channel}
 use Rattle.dma_engine.specs.Ticks.{ticked, ticks_of}
-use Rattle.dma_engine.specs.View.{EngineState, IsSound, View, channels, object_of, size}
+use Rattle.dma_engine.specs.View.{EngineState, IsSound, View, channels, object_of, size, state_at}
 use Rattle.dma_engine.specs.{declared.call.Reply.Reply, declared.entry.Entry.Entry, declared.fault.EngineFault.EngineFault, declared.turn.Advanced.Advanced}
 use Rattle.dma_engine.specs.{declared.turn.Turn.Turn, Laws.Adds, Laws.IsQuiet, Laws.ticks_in, Turn.finishes_in, Turn.steps_in}
 use Rattle.dma_engine.proofs.CookieCounts.{boards_count, base_counts_bounded, submits_add, terminates_add, ticks_name_channels}
@@ -87,8 +87,7 @@ submit_still v w ch t g h = elim (answer_is v w (Submit ch t) (Refused g) h) [
 -- the engine has added one more tick
 pub acted_next : (p : PublisherState) (v w : View) (t u : Tick) → ticks_of w.history ≡ ticks_of v.history ++ u ∷ [] → t ≡ u
     → p.before ++ ticks_of v.history ≡ p.shown.ticks → HasActed p w t
-acted_next p v w t u more is shown =
-    rw (is, more) (sym (append_assoc p.before (ticks_of v.history) (u ∷ [])) ∙ ap (λ x. x ++ u ∷ []) shown)
+acted_next p v w t u more is shown = rw (is, more) (sym (append_assoc p.before (ticks_of v.history) (u ∷ [])) ∙ ap (λ x. x ++ u ∷ []) shown)
 
 -- no tick more is published
 pub no_more : (p : PublisherState) → p ≡ record p { shown = list_and p.shown [] }
@@ -96,23 +95,47 @@ no_more p = ap (λ l. record p { shown = record (p.shown) { ticks = l } }) (sym 
 
 -- the sizes of views with one base
 pub same_size : (v w : View) → w.base ≡ v.base → size w ≡ size v
-same_size v w same =
-    size_object w.base w.history ∙ ap (λ (o : Object). length o.image) same ∙ sym (size_object v.base v.history)
+same_size v w same = size_object w.base w.history ∙ ap (λ (o : Object). length o.image) same ∙ sym (size_object v.base v.history)
 
 pub same_many : (v w : View) → w.base ≡ v.base → channels w ≡ channels v
-same_many v w same =
-    many_channels w.base w.history ∙ ap (λ (o : Object). length o.channels) same ∙ sym (many_channels v.base v.history)
+same_many v w same = many_channels w.base w.history ∙ ap (λ (o : Object). length o.channels) same ∙ sym (many_channels v.base v.history)
 
-module _ (opening : View) (base : Board) (table : TableId) where
+-- The published board has the engine's own counts of each channel.
+pub board_counts : (base : Board) (before : List Tick) (v : View) → board_from base before ≡ base_of v → IsSound v → (ch : ℕ) → ch < channels v
+    → counts (board_from base (before ++ ticks_of v.history)) ch ≡ counts_of (state_at v ch)
+board_counts base before v opens h ch less =
+    ap (λ b. counts b ch) (board_append base before (ticks_of v.history) ∙ ap (λ b. board_after b (ticks_of v.history)) opens ∙ history_eight v h)
+    ∙ counts_eight (board_after (board_of v.base) (ticks_of v.history)) ch (omega (arith, less, (base_counts_bounded v h).1))
+    ∙ ap (λ b. counts b ch) (boards_count v h)
+    ∙ get_or-map counts_of (object_of v).channels ch empty_channel
+
+-- The same desk under a new name, with an empty book.
+pub kept_anew : (opening opening_now : View) (base base_now : Board) (table table_now : TableId) (engine : EngineState) (p : PublisherState) (b e : Totals)
+    → IsKept opening base table engine p b → Names opening_now base_now table_now (record { engine = engine; base = base; table = table }) → (e.steps ≡ 0)
+    × (e.finished ≡ 0) × (e.terminated ≡ 0) → IsKept opening_now base_now table_now engine p e
+kept_anew opening opening_now base base_now table table_now engine p b e k names none = record {
+  shown = rw (names.1, names.2) k.shown;
+  opens = rw names.1 k.opens;
+  small = rw names.1 k.small;
+  counts = rw names.0 (record { steps = omega (arith, none.0); finished = omega (arith, none.1, none.2) });
+  bytes_are = ap size (sym names.0);
+  many_are = ap channels (sym names.0);
+}
+
+-- what each call keeps of a desk
+module _ {opening : View} {base : Board} {table : TableId} {old : EngineState} {p : PublisherState} {b : Totals} (k : IsKept opening base table old p b) where
+  abbrev Kept : EngineState → PublisherState → Totals → Type 0
+  Kept = IsKept opening base table
+
   board : List Tick → PublishedList
   board ticks = record { base = base; ticks = ticks; table = table }
 
   -- a call that adds ticks, which are published, and counts in the book as it does in the engine
-  kept_by : (old new : EngineState) (p q : PublisherState) (b e : Totals) (more : List Tick) (moves finishes : ℕ) → Adds old.view new.view more moves finishes
+  kept_by : (new : EngineState) (q : PublisherState) (e : Totals) (more : List Tick) (moves finishes : ℕ) → Adds old.view new.view more moves finishes
       → new.view.base ≡ old.view.base → q ≡ record p { shown = list_and p.shown more } → e.steps ≡ b.steps + moves
-      → e.finished + e.terminated ≡ b.finished + b.terminated + finishes → IsKept opening base table old p b → IsKept opening base table new q e
+      → e.finished + e.terminated ≡ b.finished + b.terminated + finishes → Kept new q e
   unfolding board
-  kept_by old new p q b e more moves finishes a same is steps done k = rw is (record {
+  kept_by new q e more moves finishes a same is steps done = rw is (record {
     shown = ap (λ (x : PublishedList). list_and x more) k.shown
         ∙ ap board (append_assoc p.before (ticks_of old.view.history) more ∙ ap (λ l. p.before ++ l) (sym a.ticks));
     opens = k.opens ∙ ap (λ o. eight (board_of o)) (sym same);
@@ -126,9 +149,8 @@ module _ (opening : View) (base : Board) (table : TableId) where
   })
 
   -- a call that changes no view
-  pub kept_still : (old new : EngineState) (p : PublisherState) (b : Totals) → new.view ≡ old.view → IsKept opening base table old p b
-      → IsKept opening base table new p b
-  kept_still old new p b same k = record {
+  pub kept_still : (new : EngineState) → new.view ≡ old.view → Kept new p b
+  kept_still new same = record {
     shown = rw same k.shown;
     opens = rw same k.opens;
     small = k.small;
@@ -138,44 +160,42 @@ module _ (opening : View) (base : Board) (table : TableId) where
   }
 
   -- a call that gives no cookie and finishes none
-  pub kept_quiet : (old new : EngineState) (p : PublisherState) (b : Totals) (call : Call) (reply : Reply) → IsQuiet call
-      → CallAnswers old.view call reply new.view → IsKept opening base table old p b → IsKept opening base table new p b
-  kept_quiet old new p b call reply q h k =
+  pub kept_quiet : (new : EngineState) (call : Call) (reply : Reply) → IsQuiet call → CallAnswers old.view call reply new.view → Kept new p b
+  kept_quiet new call reply q h =
       let t = quiet_calls_keep_counts old.view new.view call reply q h in
       let a : Adds old.view new.view [] 0 0 = record {
         ticks = t.ticks ∙ sym (append-nil (ticks_of old.view.history));
         steps = omega (arith, t.steps);
         finished = omega (arith, t.finished);
       } in
-      kept_by old new p p b b [] 0 0 a (answers_extend old.view new.view call reply (quiet_extends call reply q) h).0 (no_more p) (omega arith) (omega arith) k
+      kept_by new p b [] 0 0 a (answers_extend old.view new.view call reply (quiet_extends call reply q) h).0 (no_more p) (omega arith) (omega arith)
 
   -- a step
-  pub kept_step : (old new : EngineState) (p q : PublisherState) (b : Totals) (ch : ℕ) (r : Result Turn EngineFault) → StepAnswers old.view ch r new.view
-      → q ≡ record p { shown = list_and p.shown (ticks_in ch r) } → IsKept opening base table old p b → IsKept opening base table new q (stepped_book b r)
-  kept_step old new p q b ch r h is k =
-      kept_by old new p q b (stepped_book b r) (ticks_in ch r) (steps_in r) (finishes_in r) (steps_add old.view new.view ch r h)
-      (answers_extend old.view new.view (Step ch) (reply_of Turned r) refl h).0 is refl (omega arith) k
+  pub kept_step : (new : EngineState) (q : PublisherState) (ch : ℕ) (r : Result Turn EngineFault) → StepAnswers old.view ch r new.view
+      → q ≡ record p { shown = list_and p.shown (ticks_in ch r) } → Kept new q (stepped_book b r)
+  kept_step new q ch r h is =
+      kept_by new q (stepped_book b r) (ticks_in ch r) (steps_in r) (finishes_in r) (steps_add old.view new.view ch r h)
+      (answers_extend old.view new.view (Step ch) (reply_of Turned r) refl h).0 is refl (omega arith)
 
   -- consecutive steps
-  pub kept_advance : (old new : EngineState) (p q : PublisherState) (b : Totals) (ch most : ℕ) (a : Advanced) → IsAdvance old.view ch most a new.view
-      → q ≡ record p { shown = list_and p.shown (ticks_counted ch a) } → IsKept opening base table old p b → IsKept opening base table new q (advanced_book b a)
-  kept_advance old new p q b ch most a h is k =
-      kept_by old new p q b (advanced_book b a) (ticks_counted ch a) (steps_counted a) (finishes_counted a) (advance_adds old.view new.view ch most a h)
-      (advance_keeps old.view new.view ch most a h).0.0 is refl (omega arith) k
+  pub kept_advance : (new : EngineState) (q : PublisherState) (ch most : ℕ) (a : Advanced) → IsAdvance old.view ch most a new.view
+      → q ≡ record p { shown = list_and p.shown (ticks_counted ch a) } → Kept new q (advanced_book b a)
+  kept_advance new q ch most a h is =
+      kept_by new q (advanced_book b a) (ticks_counted ch a) (steps_counted a) (finishes_counted a) (advance_adds old.view new.view ch most a h)
+      (advance_keeps old.view new.view ch most a h).0.0 is refl (omega arith)
 
   -- the engine added one more tick, and it was published
-  pub kept_next : (old new : EngineState) (p q : PublisherState) (b e : Totals) (t u : Tick) (moves finishes : ℕ)
-      → Adds old.view new.view (u ∷ []) moves finishes → new.view.base ≡ old.view.base → t ≡ u → q ≡ record p { shown = list_with p.shown t }
-      → e.steps ≡ b.steps + moves → e.finished + e.terminated ≡ b.finished + b.terminated + finishes → IsKept opening base table old p b
-      → IsKept opening base table new q e
-  kept_next old new p q b e t u moves finishes a from is published steps done k =
-      kept_by old new p q b e (u ∷ []) moves finishes a from (published ∙ ap (λ x. record p { shown = list_with p.shown x }) is) steps done k
+  pub kept_next : (new : EngineState) (q : PublisherState) (e : Totals) (t u : Tick) (moves finishes : ℕ) → Adds old.view new.view (u ∷ []) moves finishes
+      → new.view.base ≡ old.view.base → t ≡ u → q ≡ record p { shown = list_with p.shown t } → e.steps ≡ b.steps + moves
+      → e.finished + e.terminated ≡ b.finished + b.terminated + finishes → Kept new q e
+  kept_next new q e t u moves finishes a from is published steps done =
+      kept_by new q e (u ∷ []) moves finishes a from (published ∙ ap (λ x. record p { shown = list_with p.shown x }) is) steps done
 
   -- a checkpoint: what was published comes before the new history
-  pub kept_checkpoint : (old new : EngineState) (p q : PublisherState) (b : Totals) → IsSound old.view → CallAnswers old.view Checkpoint Done new.view
-      → q ≡ record p { before = p.shown.ticks } → IsKept opening base table old p b → IsKept opening base table new q b
+  pub kept_checkpoint : (new : EngineState) (q : PublisherState) → IsSound old.view → CallAnswers old.view Checkpoint Done new.view
+      → q ≡ record p { before = p.shown.ticks } → Kept new q b
   unfolding board
-  kept_checkpoint old new p q b sound h is k =
+  kept_checkpoint new q sound h is =
       let c = checkpoints_keep old.view new.view sound h in
       let ticks = ticks_of old.view.history in
       let next : new.view ≡ checkpointed old.view = accepted (checkpoint_fault old.view) old.view new.view (checkpointed old.view) h in
@@ -191,49 +211,24 @@ module _ (opening : View) (base : Board) (table : TableId) where
         many_are = ap channels next ∙ length-map (object_of old.view).channels forget ∙ k.many_are;
       })
 
--- The same desk under a new name, with an empty book.
-pub kept_anew : (opening opening_now : View) (base base_now : Board) (table table_now : TableId) (engine : EngineState) (p : PublisherState) (b e : Totals)
-    → IsKept opening base table engine p b → Names opening_now base_now table_now (record { engine = engine; base = base; table = table }) → (e.steps ≡ 0)
-    × (e.finished ≡ 0) × (e.terminated ≡ 0) → IsKept opening_now base_now table_now engine p e
-kept_anew opening opening_now base base_now table table_now engine p b e k names none = record {
-  shown = rw (names.1, names.2) k.shown;
-  opens = rw names.1 k.opens;
-  small = rw names.1 k.small;
-  counts = rw names.0 (record { steps = omega (arith, none.0); finished = omega (arith, none.1, none.2) });
-  bytes_are = ap size (sym names.0);
-  many_are = ap channels (sym names.0);
-}
+  -- ---- what a ticket shows
 
--- The published board has the engine's own counts of each channel.
-pub board_counts : (base : Board) (before : List Tick) (v : View) → board_from base before ≡ base_of v → IsSound v → (ch : ℕ) → ch < channels v
-    → counts (board_from base (before ++ ticks_of v.history)) ch ≡ counts_of (channel (object_of v) ch)
-board_counts base before v opens h ch less =
-    ap (λ b. counts b ch) (board_append base before (ticks_of v.history) ∙ ap (λ b. board_after b (ticks_of v.history)) opens ∙ history_eight v h)
-    ∙ counts_eight (board_after (board_of v.base) (ticks_of v.history)) ch (omega (arith, less, (base_counts_bounded v h).1))
-    ∙ ap (λ b. counts b ch) (boards_count v h)
-    ∙ get_or-map counts_of (object_of v).channels ch empty_channel
-
--- ---- what a ticket shows
-
-module _ (opening : View) (base : Board) (table : TableId) where
   -- the cookie of a submit is given in the list that is published then
-  pub given_in : (new : EngineState) (q : PublisherState) (b : Totals) (v : View) (ch cookie : ℕ) (t : Descriptor) (list : List Tick)
-      → CallAnswers v (Submit ch t) (Cookie cookie) new.view → IsSound new.view → IsKept opening base table new q b → list ≡ q.shown.ticks
-      → IsGiven base list ch cookie
-  given_in new q b v ch cookie t list h sound k is =
-      let s = submits_add v new.view ch cookie t h in
+  pub given_in : (v : View) (ch cookie : ℕ) (t : Descriptor) (list : List Tick) → CallAnswers v (Submit ch t) (Cookie cookie) old.view → IsSound old.view
+      → list ≡ p.shown.ticks → IsGiven base list ch cookie
+  given_in v ch cookie t list h sound is =
+      let s = submits_add v old.view ch cookie t h in
       let all = is ∙ ap (λ (x : PublishedList). x.ticks) k.shown in
-      let at : (counts (board_from base list) ch).used ≡ used (channel (object_of new.view) ch) =
-      ap (λ l. (counts (board_from base l) ch).used) all ∙ ap (λ (x : Counts). x.used) (board_counts base q.before new.view k.opens sound ch s.1) in
+      let at : (counts (board_from base list) ch).used ≡ used (state_at old.view ch) =
+      ap (λ l. (counts (board_from base l) ch).used) all ∙ ap (λ (x : Counts). x.used) (board_counts base p.before old.view k.opens sound ch s.1) in
       (s.2, omega (arith, at, s.3))
 
   -- and after a terminate all cookies of its channel are finished
-  pub finished_in : (new : EngineState) (q : PublisherState) (b : Totals) (v : View) (ch count through : ℕ) (list : List Tick)
-      → CallAnswers v (Terminate ch) (Count count) new.view → IsSound new.view → IsKept opening base table new q b → list ≡ q.shown.ticks
-      → through ≡ used (channel (object_of new.view) ch) → AreFinished base list ch through
-  finished_in new q b v ch count through list h sound k is through_is =
-      let s = terminates_add v new.view ch count h in
+  pub finished_in : (v : View) (ch count through : ℕ) (list : List Tick) → CallAnswers v (Terminate ch) (Count count) old.view → IsSound old.view
+      → list ≡ p.shown.ticks → through ≡ used (state_at old.view ch) → AreFinished base list ch through
+  finished_in v ch count through list h sound is through_is =
+      let s = terminates_add v old.view ch count h in
       let all = is ∙ ap (λ (x : PublishedList). x.ticks) k.shown in
-      let at : counts (board_from base list) ch ≡ counts_of (channel (object_of new.view) ch) =
-      ap (λ l. counts (board_from base l) ch) all ∙ board_counts base q.before new.view k.opens sound ch s.1 in
+      let at : counts (board_from base list) ch ≡ counts_of (state_at old.view ch) =
+      ap (λ l. counts (board_from base l) ch) all ∙ board_counts base p.before old.view k.opens sound ch s.1 in
       (omega (arith, through_is, ap (λ (x : Counts). x.used) at), omega (arith, through_is, ap (λ (x : Counts). x.finished) at, s.3))

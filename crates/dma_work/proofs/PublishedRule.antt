@@ -160,12 +160,11 @@ longer_none xs = ap (λ b. if b then [] else xs) (le-ltb (length xs) 0 (omega ar
 
 -- The writer adds a tick, whose channel has the word i, if it has one. The word had the counts before the tick, and
 -- gets those after it.
-pub adds_kept : (base : Board) (slots id i old new : ℕ) (me : Me Tick Sight) (t : Tick) → me.0.writes ≡ true → i < 10 → (channel_of t < 8 → i ≡ channel_of t)
-    → (8 ≤ channel_of t → 8 ≤ i)
+pub adds_kept : (base : Board) (slots id i old new : ℕ) (me : Me Tick Sight) (t : Tick) → me.0.writes ≡ true → i ≡ min (channel_of t) 8
     → (i < 8 → old ≡ packed (counts (board_from me.0.base me.0.seen) i)) → (i < 8 → new ≡ packed (counts (ticked (board_from me.0.base me.0.seen) t) i))
     → Allows (Keeps base) slots id me i (λ n. either (n == old) new n) (adds (step slots i old new (some t)) me)
 unfolding Known
-adds_kept base slots id i old new me t writes inside low high old_is new_is s k sized at few =
+adds_kept base slots id i old new me t writes place old_is new_is s k sized at few =
     let v = me.0 in
     let o = k.known id v at in
     let here = o.writer writes in
@@ -196,7 +195,7 @@ adds_kept base slots id i old new me t writes inside low high old_is new_is s k 
       writer = λ yes. (here.0, ap (λ l. l ++ t ∷ []) here.1);
     } in
     let apart : (ch : ℕ) → ch < 8 → ch ≢ i → counts (board_from base all) ch ≡ counts b ch = λ ch less not.
-    ap (λ x. counts x ch) (board_push base k.ticks t) ∙ other_counts b t ch (λ is. not (is ∙ sym (low (omega (arith, less, is))))) in (
+    ap (λ x. counts x ch) (board_push base k.ticks t) ∙ other_counts b t ch (λ is. not (omega (arith, place, less, is))) in (
       w,
       keeps,
       tt,
@@ -208,7 +207,7 @@ adds_kept base slots id i old new me t writes inside low high old_is new_is s k 
         eight = k.eight;
         small = k.small;
         many = length-set s.words i (either (n == old) new n) ∙ k.many;
-        words = set_words b (board_from base all) s.words i (either (n == old) new n) k.words (omega (arith, inside, k.many))
+        words = set_words b (board_from base all) s.words i (either (n == old) new n) k.words (omega (arith, place, k.many))
             (λ less. word less ∙ ap (λ x. packed (counts x i)) (sym (board_push base k.ticks t))) apart;
       },
       λ u is. search (is),

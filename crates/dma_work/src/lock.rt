@@ -5,13 +5,18 @@ use std::sync::atomic::AtomicU64;
 use std::sync::{Mutex, MutexGuard, Wait};
 use std::time::Duration;
 
-// A worker looks so often at a lock that another thread has, each time after a few pauses, before it sleeps.
+// How often a worker looks at a lock that another thread has before it sleeps.
 const LOOKS: u32 = 8;
+
+// The pauses before each look.
 const PAUSES: u32 = 8;
-// It sleeps so often before it waits in the lock's own queue: 50 microseconds at first, and twice as long each time, at
-// most 800.
+
+// How often it sleeps before it waits in the lock's own queue.
 const SLEEPS: u32 = 16;
+
+// The microseconds of its first sleep. Each of the next takes twice as long, up to `DOUBLINGS` times.
 const SHORTEST: u64 = 50;
+
 const DOUBLINGS: u32 = 4;
 
 /// Takes a lock. A free one is taken inline, without a call.

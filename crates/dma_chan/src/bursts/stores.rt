@@ -6,7 +6,7 @@ ghost use Rattle.dma_insn.specs.AssemblyText.{most_program_bytes};
 ghost use Rattle.dma_mem.specs.Image.{put};
 ghost use Rattle.dma_mem.specs.Lent.{Avoids, with_gaps};
 ghost use Rattle.dma_chan.specs.Bursts.{burst_len, touched, writes_of, reaches, span_of};
-ghost use Rattle.dma_chan.specs.inner.Spans.{LieIn, MovesSome};
+ghost use Rattle.dma_chan.specs.inner.Spans.{LieIn, IsBurst};
 ghost use Rattle.dma_chan.specs.Exec.{destination_of, buffer_size};
 ghost use Rattle.dma_chan.specs.Ready.{none_missing};
 ghost use Rattle.dma_chan.specs.inner.Acts.{Executes, FaultsWith};
@@ -21,8 +21,7 @@ use dma_mem::ram::Ram;
 // Stores the oldest bytes of the buffer as a burst. Bytes that a later beat would overwrite are not written.
 #[inline(always)]
 fn store_span<M: Ram>(burst: Burst, buffer: &mut Fifo, memory: &mut M)
-    requires some { MovesSome burst }
-    requires limit { (burst.size ≤ 16) × (burst.beats ≤ 16) }
+    requires some { IsBurst burst }
     requires bytes { burst_len burst ≤ length buffer.old }
     requires within { burst.addr + span_of burst ≤ length (M.paged memory.old).image }
     requires clear { Avoids (M.loan memory.old).gaps burst.addr (span_of burst) }
@@ -51,8 +50,7 @@ pub(crate) fn store_fault<M: Ram>(
 ) -> Option<FaultKind>
     requires burst { burst ≡ destination_of executor.now.registers }
     requires addr { burst.addr ≡ executor.now.registers.dar }
-    requires some { MovesSome burst }
-    requires limit { (burst.size ≤ 16) × (burst.beats ≤ 16) }
+    requires some { IsBurst burst }
     ensures fault { FaultsWith (with_gaps (M.loan memory.now) marks.now) St executor.now.registers
         executor.now.buffer (M.paged memory.now).image result }
     ensures bytes { IsNone result

@@ -6,7 +6,7 @@ ghost use Rattle.dma_insn.specs.AssemblyText.{most_program_bytes};
 ghost use Rattle.dma_mem.specs.Image.{put};
 ghost use Rattle.dma_mem.specs.Lent.{Avoids, with_gaps};
 ghost use Rattle.dma_chan.specs.Bursts.{burst_len, touched, zeros_of, reaches, span_of};
-ghost use Rattle.dma_chan.specs.inner.Spans.{LieIn, MovesSome};
+ghost use Rattle.dma_chan.specs.inner.Spans.{LieIn, IsBurst};
 ghost use Rattle.dma_chan.specs.Exec.{destination_of, buffer_size};
 ghost use Rattle.dma_chan.specs.Ready.{none_missing};
 ghost use Rattle.dma_chan.specs.inner.Acts.{Executes, FaultsWith};
@@ -19,8 +19,7 @@ use dma_mem::ram::Ram;
 
 // Stores zeros as a burst.
 fn zero_span<M: Ram>(burst: Burst, memory: &mut M)
-    requires some { MovesSome burst }
-    requires limit { (burst.size ≤ 16) × (burst.beats ≤ 16) }
+    requires some { IsBurst burst }
     requires within { burst.addr + span_of burst ≤ length (M.paged memory.old).image }
     requires clear { Avoids (M.loan memory.old).gaps burst.addr (span_of burst) }
     requires ready { IsTrue (none_missing (M.paged memory.old) (touched burst)) }

@@ -24,6 +24,7 @@ const DMAGO_NONSECURE: u32 = 0xA2;
 impl Device {
     /// Writes the register at this offset for the guest. An offset that has no register ignores writes. A DMAGO reads
     /// its program from the regions.
+    #[tactic(auto, using(crate::proofs::Sound::and_fewer, crate::proofs::Sound::and_known, crate::proofs::Sound::with_events))]
     pub fn write(&mut self, at: u32, value: u32, regions: &[Region<'_>])
         ensures { self.new ≡ written (pieces_of regions.now) at value self.old }
     {
@@ -114,6 +115,7 @@ impl Device {
     }
 
     // Executes a DMAGO for channel `n`.
+    #[tactic(auto, using(crate::proofs::Found::found_at, crate::proofs::Found::none_at))]
     fn go(&mut self, regions: &[Region<'_>], nonsecure: bool, n: usize)
         ensures { self.new
             ≡ go (pieces_of regions.now) nonsecure n (slice_get self.old.threads n) self.old }
@@ -143,6 +145,7 @@ impl Device {
     }
 
     // Executes an instruction by channel thread `n`.
+    #[tactic(auto, using(crate::proofs::Found::found_at, crate::proofs::Found::none_at, std::proofs::lemmas::List::get_or_default))]
     fn debug_thread(&mut self, n: usize, opcode: u32, byte: u32)
         requires { byte < 2 ^ 8 }
         ensures { self.new ≡ by_thread n (slice_get self.old.threads n) opcode byte self.old }

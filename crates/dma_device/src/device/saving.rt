@@ -12,6 +12,7 @@ use crate::save::{HEAD_LEN, RestoreFault, SUM_LEN, is_sealed, seal};
 impl Device {
     /// Writes the device's save to the front of `out`, and returns its length in bytes, at most
     /// [`MAX_SAVE`](crate::save::MAX_SAVE). If `out` is shorter, it returns `None` and writes nothing.
+    #[tactic(auto, using(crate::proofs::SavedDevices::own_length))]
     pub fn save(&self, out: &mut [u8]) -> Option<usize>
         ensures bytes { IfSome result (λ n. out.new ≡ saved_device self.now ++ drop n out.old) }
         ensures len { IfSome result (λ n. n ≡ length (saved_device self.now)) }
@@ -30,6 +31,7 @@ impl Device {
     }
 
     // Returns the length of the device's save without its checksum.
+    #[tactic(auto, using(crate::proofs::SavedDevices::device_length, crate::proofs::Sound::few_channels))]
     fn parts_len(&self) -> usize
         ensures len { result ≡ length (parts_in 2 self.now) }
         ensures head { 40 ≤ result }
@@ -57,6 +59,7 @@ impl Device {
     /// The error is `OtherDevice` for bytes that begin as the save of a device of another version or configuration, and
     /// then nothing changes. It is `BadSave` if the bytes aren't the save of any device, and then the device is in its
     /// state after a reset.
+    #[tactic(auto, using(crate::proofs::SavedDevices::old_identity, crate::proofs::SavedDevices::own_identity))]
     pub fn restore(&mut self, save: &[u8]) -> Result<(), RestoreFault>
         // The bytes are the save of the restored device, which satisfies what every device does.
         ensures ok { OnOk result (IsSavedAs save.now self.new) }

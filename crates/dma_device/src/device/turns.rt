@@ -85,6 +85,7 @@ impl Device {
     }
 
     // Returns whether the device has thread `n`, and it runs.
+    #[tactic(auto, using(crate::proofs::Found::found_at, crate::proofs::Found::none_at))]
     pub(super) fn runs(&self, n: usize) -> bool
         ensures { result ≡ runs_at self.now n }
     {
@@ -125,6 +126,7 @@ impl Device {
     }
 
     // Sets the events and interrupts after a call that left a channel these flags.
+    #[tactic(auto, using(crate::proofs::Sound::and_fewer, crate::proofs::Sound::and_known, crate::proofs::Sound::with_events, std::proofs::lemmas::Nat::or_lt))]
     fn set_flags(&mut self, flags: u32)
         ensures { self.new ≡ with_flags flags self.old }
     {
@@ -143,6 +145,7 @@ impl Device {
 
     // Returns whether thread `n` runs, and its next instruction writes in or beside this range, or one of them is
     // empty.
+    #[tactic(auto, using(crate::proofs::Found::found_at, crate::proofs::Found::none_at))]
     fn is_beside(&self, n: usize, range: Segment) -> bool
         ensures { result ≡ is_beside range (slice_get self.now.threads n) }
     {

@@ -90,6 +90,7 @@ fn is_known(word: u32, config: Config) -> bool
 
 impl Head {
     // Returns the bytes of the head.
+    #[tactic(auto, unfolding(crate::specs::Snapshot::head_bytes))]
     pub fn bytes(&self) -> HeadBytes
         ensures bytes { result.items ≡ head_bytes self.now }
         ensures len { array_vec_len result ≡ 40 }

@@ -16,6 +16,7 @@ use dma_chan::bus::Bus;
 
 impl Thread {
     // Returns what is saved of the thread beside its channel, whose save has this length.
+    #[tactic(auto, unfolding(crate::specs::Snapshot::thread_bytes))]
     fn head_bytes(&self, len: u32) -> HeadBytes
         ensures bytes { result.items ≡ thread_bytes self.now len }
         ensures len { array_vec_len result ≡ 20 }
@@ -123,6 +124,7 @@ impl Thread {
 }
 
 // Returns the length of the threads' saves together.
+#[tactic(auto, using(std::proofs::lemmas::List::take_all))]
 pub(crate) fn threads_len(threads: &[Thread], events: u8) -> usize
     requires few { length threads.now ≤ most_channels }
     requires sound { All (IsSound events) threads.now }

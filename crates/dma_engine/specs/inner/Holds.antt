@@ -40,6 +40,18 @@ view_of p =
       schedule = map schedule_of p.queues;
     }
 
+-- the object that they show
+abbrev pub object_in : Parts → Object
+object_in p = object_of (view_of p)
+
+-- the state of a channel
+abbrev pub state_in : Parts → ℕ → ChannelState
+state_in p ch = channel (object_in p) ch
+
+-- what runs on a channel
+abbrev pub runs_in : Parts → ℕ → Option RunningTransfer
+runs_in p ch = runs (object_in p) (view_of p).schedule ch
+
 -- a queue to which nothing was submitted
 abbrev pub new_queue : Queue
 new_queue =
@@ -152,10 +164,10 @@ pub record Holds (p : Parts) : Type 0 where
   pub sound : IsSound (view_of p)
   pub size : p.size ≡ length p.base.image
   pub shown : p.memory ≡ memory_of (view_of p)
-  pub events : p.events ≡ (object_of (view_of p)).events
-  pub marks : p.marks ≡ (object_of (view_of p)).marks
+  pub events : p.events ≡ (object_in p).events
+  pub marks : p.marks ≡ (object_in p).marks
   pub each : (ch : ℕ) (d : Queue) → ch < length p.queues →
-      IsQueue ch (channel p.base ch).submitted p.history p.memory (slice_index_or p.queues ch d) (channel (object_of (view_of p)) ch)
-  pub prepared : (ch : ℕ) → IsPrepared p.made (runs (object_of (view_of p)) (view_of p).schedule ch)
+      IsQueue ch (channel p.base ch).submitted p.history p.memory (slice_index_or p.queues ch d) (state_in p ch)
+  pub prepared : (ch : ℕ) → IsPrepared p.made (runs_in p ch)
   pub ranges : (ch : ℕ) (d : Queue) → ch < length p.queues →
-      AreOfRunning (slice_index_or p.queues ch d).ranges (runs (object_of (view_of p)) (view_of p).schedule ch)
+      AreOfRunning (slice_index_or p.queues ch d).ranges (runs_in p ch)

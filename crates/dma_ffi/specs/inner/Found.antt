@@ -8,10 +8,10 @@ use Rattle.dma_device.specs.declared.device.explain.ExplainFault.TheVariants as 
 
 -- What was found is written, or the cause, except of a program that is too long and if memory ran out; the code says
 -- which.
-abbrev pub Answers : {Out : Type 0} → (Explained → ℤ → Out → Out → Type 0) → (Unexplained → Out → Out)
+abbrev pub AnswersProgram : {Out : Type 0} → (Explained → ℤ → Out → Out → Type 0) → (Unexplained → Out → Out)
     → Result Explained Unexplained → ℤ → Out → Out → Type 0
-Answers Writes causes (Ok x) code before after = Writes x code before after
-Answers Writes causes (Err u) code before after =
+AnswersProgram Writes causes (Ok x) code before after = Writes x code before after
+AnswersProgram Writes causes (Err u) code before after =
     ((u.cause ≡ TooLong) × (code ≡ program_too_long) × (after ≡ before))
     ⊎ (((u.cause ≡ NoMemory) × (code ≡ no_memory) × (after ≡ before))
     ⊎ ((u.cause ≢ TooLong) × (u.cause ≢ NoMemory) × (code ≡ unexplained) × (after ≡ causes u before)))
@@ -21,6 +21,6 @@ abbrev pub AnswersDevice : {Out : Type 0} → (Explained → ℤ → Out → Out
     → Result Explained ExplainFault → ℤ → Out → Out → Type 0
 AnswersDevice Writes causes (Ok x) code before after = Writes x code before after
 AnswersDevice Writes causes (Err (faults.Unexplained u)) code before after =
-    Answers Writes causes (Err u) code before after
+    AnswersProgram Writes causes (Err u) code before after
 AnswersDevice Writes causes (Err faults.NoChannel) code before after = (code ≡ no_channel) × (after ≡ before)
 AnswersDevice Writes causes (Err faults.NoProgram) code before after = (code ≡ no_program) × (after ≡ before)

@@ -2,14 +2,14 @@
 -- of the three tests of words (their count, their form, and the ranges of numbers), the first fault is kept until the
 -- end of the line. What a line means is in `Arguments`, `Plan`, `Statements` and `Race`.
 use Rattle.std.specs.Prelude.{◌≡◌, ◌<◌, ◌≤◌, slice_index, ℕ, ◌&&◌, ◌||◌, Bool, true, false, not, if◌then◌else◌, List, [], ◌∷◌, ◌++◌, Option, Some, None, Result}
-use Rattle.std.specs.Prelude.{Ok, is_some, unwrap_or, codes}
+use Rattle.std.specs.Prelude.{Ok, unwrap_or, codes}
 use Rattle.std.specs.{Option.option_or, Str.bytes_eq}
 use Rattle.dma_mem.specs.declared.marks.MarkKind.TheVariants.{Reading, Writing}
 use Rattle.dma_mem.specs.{declared.marks.MarkKind.MarkKind, declared.segment.Segment.Segment}
 use Rattle.dma_text.specs.{Lines.is_blank, Results.◌>>=◌}
-use Rattle.dma_script.specs.Arguments.{bytes_at, is_between, most_line_steps, number_or_zero, or_empty, unless, where_not, Shape, makes, number, within}
+use Rattle.dma_script.specs.Arguments.{any_list, any_number, any_segment, bytes_at, is_between, most_line_steps, number_or_zero, or_empty, unless, where_not, Shape, makes, number, within}
 use Rattle.dma_script.specs.Arguments.{segment, list, steps, bytes, fixed, event, source, kind}
-use Rattle.dma_script.specs.{Words.number_of, Words.segment_of, Words.list_of, Plan.transfer, Statements.later_line, Statements.statement}
+use Rattle.dma_script.specs.{Words.segment_of, Words.list_of, Plan.transfer, Statements.later_line, Statements.statement}
 use Rattle.dma_script.specs.{Causes.cause_reported, declared.fault.Cause.Cause, declared.transfer_line.Origin.Origin}
 use Rattle.dma_script.specs.{declared.transfer_line.TransferLine.TransferLine, declared.statements.Keyword.Keyword, declared.statements.Statement.Statement}
 use Rattle.dma_script.specs.declared.fault.Cause.TheVariants as causes
@@ -86,10 +86,7 @@ fixed_from text line = if begins text line.left then skipped line else record li
 
 -- a number
 abbrev pub number_from : LineRead → ℕ × LineRead
-number_from line = (
-  number_or_zero (next_of line.left),
-  noted (where_not (is_some (number_of (next_of line.left))) causes.Number) (after_word line),
-)
+number_from line = (number_or_zero (next_of line.left), noted (any_number (next_of line.left)).form (after_word line))
 
 -- a number from `low` to `high`, or a cause
 abbrev pub within_from : ℕ → ℕ → Cause → LineRead → ℕ × LineRead
@@ -98,71 +95,49 @@ within_from low high cause line =
     let fits = is_between low high found.0 in
     (if fits then found.0 else low, record found.1 { range = option_or found.1.range (where_not fits cause) })
 
--- a number of at most 255, such as that of a channel or an event
-abbrev pub byte_from : LineRead → ℕ × LineRead
-byte_from line = within_from 0 255 causes.Range line
-
--- a number of steps, which is 1 if no word is left
-abbrev pub count_from : LineRead → ℕ × LineRead
-count_from line = if no_words line.left then (1, line) else within_from 1 most_line_steps causes.Range line
-
--- the event after its name, or `None` if the name is not the next word
-abbrev pub event_from : List ℕ → LineRead → Option ℕ × LineRead
-event_from name line =
-    let found = byte_from (skipped line) in
-    if begins name line.left then (Some found.0, found.1) else (None, line)
-
--- a segment
-abbrev pub segment_from : LineRead → Segment × LineRead
-segment_from line = (
-  unwrap_or (segment_of (next_of line.left)) (record { addr = 0; len = 0 }),
-  noted (where_not (is_some (segment_of (next_of line.left))) causes.Number) (after_word line),
-)
-
 -- a list of segments
 abbrev pub list_from : LineRead → List Segment × LineRead
-list_from line = (
-  unwrap_or (list_of (next_of line.left)) [],
-  noted (where_not (is_some (list_of (next_of line.left))) causes.Number) (after_word line),
-)
+list_from line = (unwrap_or (list_of (next_of line.left)) [], noted (any_list (next_of line.left)).form (after_word line))
 
--- `to LIST`
-abbrev pub to_list_from : LineRead → List Segment × LineRead
-to_list_from line = list_from (fixed_from (codes "to") line)
+-- the event after its name, given whether that is the next word
+abbrev pub event_from : Bool → LineRead → Option ℕ × LineRead
+event_from is line =
+    let found = within_from 0 255 causes.Range (skipped line) in
+    if is then (Some found.0, found.1) else (None, line)
 
--- the joined bytes of all words that are left, at least one
-abbrev pub bytes_from : LineRead → List ℕ × LineRead
-bytes_from line = (
-  or_empty (bytes_at line.left),
-  noted (cause_reported (bytes_at line.left)) (record line { left = []; misses = line.misses || no_words line.left }),
-)
-
--- the source of a transfer: `fill ADDR`, or a list
-abbrev pub source_from : LineRead → Origin × LineRead
-source_from line =
+-- the source of a transfer, given whether `fill` is the next word
+abbrev pub source_from : Bool → LineRead → Origin × LineRead
+source_from is line =
     let addr = number_from (skipped line) in
     let places = list_from line in
-    if begins (codes "fill") line.left then (origins.Place addr.0, addr.1) else (origins.List places.0, places.1)
+    if is then (origins.Place addr.0, addr.1) else (origins.List places.0, places.1)
 
--- the kind of a mark: loads fail at a `read` mark, stores at a `write` mark
-abbrev pub kind_from : LineRead → MarkKind × LineRead
-kind_from line =
-    if begins (codes "read") line.left then (Reading, skipped line)
-    else (Writing, fixed_from (codes "write") line)
+-- the kind of a mark, given whether `read` is the next word, and whether `write` is
+abbrev pub kind_from : Bool → Bool → LineRead → MarkKind × LineRead
+kind_from reads writes line =
+    if reads then (Reading, skipped line) else (Writing, if writes then skipped line else record line { misses = true })
 
 -- what a shape makes of a line's words, one after another, and the line after them
 abbrev pub read : {A : Type 0} → Shape A → LineRead → A × LineRead
 read (makes a) line = (a, line)
 read (number next) line = let found = number_from line in read (next found.0) found.1
 read (within low high cause next) line = let found = within_from low high cause line in read (next found.0) found.1
-read (segment next) line = let found = segment_from line in read (next found.0) found.1
+read (segment next) line =
+    let word = next_of line.left in
+    read (next (unwrap_or (segment_of word) (record { addr = 0; len = 0 }))) (noted (any_segment word).form (after_word line))
 read (list next) line = let found = list_from line in read (next found.0) found.1
-read (steps next) line = let found = count_from line in read (next found.0) found.1
-read (bytes next) line = let found = bytes_from line in read (next found.0) found.1
+read (steps next) line =
+    let found = if no_words line.left then (1, line) else within_from 1 most_line_steps causes.Range line in
+    read (next found.0) found.1
+read (bytes next) line =
+    let after = record line { left = []; misses = line.misses || no_words line.left } in
+    read (next (or_empty (bytes_at line.left))) (noted (cause_reported (bytes_at line.left)) after)
 read (fixed text rest) line = read rest (fixed_from text line)
-read (event name next) line = let found = event_from name line in read (next found.0) found.1
-read (source next) line = let found = source_from line in read (next found.0) found.1
-read (kind next) line = let found = kind_from line in read (next found.0) found.1
+read (event name next) line = let found = event_from (begins name line.left) line in read (next found.0) found.1
+read (source next) line = let found = source_from (begins (codes "fill") line.left) line in read (next found.0) found.1
+read (kind next) line =
+    let found = kind_from (begins (codes "read") line.left) (begins (codes "write") line.left) line in
+    read (next found.0) found.1
 
 -- `LIST to LIST [wait E] [signal E]` or `fill ADDR to LIST [wait E] [signal E]`
 abbrev pub transfer_from : LineRead → TransferLine × LineRead

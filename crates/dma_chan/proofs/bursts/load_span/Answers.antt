@@ -11,7 +11,7 @@ returns-then-burst g c =
     let bytes : c.bytes-bytes.result.now ≡ take (span_of burst) (drop burst.addr image) = c.bytes-bytes.ensures
     ∙ ap (λ n. take n (drop burst.addr image)) (omega (arith, c.span-len.ensures.len, c.span-len.ensures.limit, c.requires.block, length-take {A = ℕ})) in
     let room : length old + length c.bytes-bytes.result.now ≤ 256 =
-    omega (arith, ap length bytes, length-take (span_of burst) (drop burst.addr image), span_within burst c.requires.some, c.requires.room) in
+    omega (arith, ap length bytes, length-take (span_of burst) (drop burst.addr image), span_within burst c.requires.some.some, c.requires.room) in
     bytes_put old _ c.bytes-bytes.result.now _ room c.fill_from_slice.ensures.count c.fill_from_slice.ensures.bytes
     ∙ ap (λ xs. old ++ xs) (bytes ∙ sym (read_rising image burst c.if-burst.true c.requires.within))
 

@@ -1,15 +1,14 @@
 use Rattle.std.proofs.Common.{sym, arith, ◌<◌}
-use Rattle.std.proofs.lemmas.Grind.{common_steps}
 use Rattle.dma_mem.proofs.GapMarks.{barred_gaps}
 use Rattle.dma_chan.specs.Bursts.{span_of}
-use Rattle.dma_chan.proofs.BurstReach.{reaches_clear, reaches_gap}
+use Rattle.dma_chan.proofs.BurstReach.{reaches_gap}
 use Rattle.dma_chan.proofs.bursts.may_touch.Goals as goal
 
 pub returns-then-clear-span-clause-exact : goal.returns-then-clear-span-clause-exact
 returns-then-clear-span-clause-exact g c =
     let below : c.clear.result < span_of c.args.burst = omega arith in
     let gap = rw c.span-span.ensures.addr at (c.clear.ensures.next (omega arith)) in
-    sym (reaches_gap c.args.kind (g.M.Ram.loan c.args.memory.now) c.args.marks.now _ c.args.burst c.clear.result c.requires.some below gap)
+    sym (reaches_gap c.args.kind (g.M.Ram.loan c.args.memory.now) c.args.marks.now _ c.args.burst c.clear.result c.requires.some.some below gap)
 
 pub returns-then-end-size-clause-lie : goal.returns-then-end-size-clause-lie
 returns-then-end-size-clause-lie g c = λ hit. record {
@@ -18,15 +17,3 @@ returns-then-end-size-clause-lie g c = λ hit. record {
       (λ a low high. c.clear.ensures.none a (omega (arith, low, c.span-span.ensures.addr))
       (omega (arith, high, c.span-span.ensures.addr, c.span-span.ensures.len)));
 }
-
-pub returns-then-clear-span-clause-lie : goal.returns-then-clear-span-clause-lie
-returns-then-clear-span-clause-lie g c = grind (arith, common_steps)
-
-pub returns-else-end-size-clause-lie : goal.returns-else-end-size-clause-lie
-returns-else-end-size-clause-lie g c = grind (arith, common_steps)
-
-pub returns-else-end-size-clause-exact : goal.returns-else-end-size-clause-exact
-returns-else-end-size-clause-exact g c = grind (arith, reaches_clear)
-
-pub returns-then-end-size-clause-exact : goal.returns-then-end-size-clause-exact
-returns-then-end-size-clause-exact g c = grind (arith, reaches_clear)

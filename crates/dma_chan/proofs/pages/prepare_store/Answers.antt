@@ -11,7 +11,7 @@ returns-then-is_on_page-clause-ok g c =
     let b = c.destination_burst.result in
     let span = c.span-span.ensures in
     ap (λ b. none_missing m (touched b)) (sym c.destination_burst.ensures.value)
-    ∙ pages_all m b c.destination_burst.ensures.some.beats (λ a low high.
+    ∙ pages_all m b c.destination_burst.ensures.some.some.beats (λ a low high.
     ap (λ p. has_page m p) (c.is_on_page.ensures.page c.if-is_on_page.true a (omega (arith, span.addr, low)) (omega (arith, span.addr, span.len, high)))
     ∙ (rw c.in-Some.is at c.requires.known))
 
@@ -24,7 +24,7 @@ returns-in-Ok-clause-ok g c =
     let addr = part.addr ∙ rw (c.span-span.ensures.addr, image) refl in
     let len = part.len ∙ rw (c.span-span.ensures.len, c.span-span.ensures.addr, image) refl in
     ap (λ b. none_missing m (touched b)) (sym c.destination_burst.ensures.value)
-    ∙ part_all m b c.part_below-part.result.addr c.part_below-part.result.len c.destination_burst.ensures.some.beats addr len
+    ∙ part_all m b c.part_below-part.result.addr c.part_below-part.result.len c.destination_burst.ensures.some.some.beats addr len
     (rw c.in-Ok.is at c.prepare.ensures.ok)
 
 pub returns-in-Err-clause-short : goal.returns-in-Err-clause-short
@@ -38,7 +38,7 @@ returns-in-Err-clause-short g c =
     let addr = part.addr ∙ rw (c.span-span.ensures.addr, image) refl in
     let len = part.len ∙ rw (c.span-span.ensures.len, c.span-span.ensures.addr, image) refl in
     ap (λ b. none_missing m (touched b)) (sym c.destination_burst.ensures.value)
-    ∙ part_short m b c.part_below-part.result.addr c.part_below-part.result.len c.destination_burst.ensures.some.beats addr len
+    ∙ part_short m b c.part_below-part.result.addr c.part_below-part.result.len c.destination_burst.ensures.some.some.beats addr len
     (rw c.in-Err.is at c.prepare.ensures.short below)
 
 pub returns-in-Ok-clause-others : goal.returns-in-Ok-clause-others
@@ -50,7 +50,7 @@ returns-in-Ok-clause-others g c = λ p off.
     c.prepare.ensures.others p
     (λ a here. off a (subst (λ b. Contains (touched b) a) c.destination_burst.ensures.value
     (part_touched b (length (g.M.Ram.paged c.args.memory.now).image) c.part_below-part.result.addr c.part_below-part.result.len a
-    c.destination_burst.ensures.some.beats addr len here)))
+    c.destination_burst.ensures.some.some.beats addr len here)))
 
 pub returns-in-Err-clause-others : goal.returns-in-Err-clause-others
 returns-in-Err-clause-others g c = λ p off.
@@ -61,4 +61,4 @@ returns-in-Err-clause-others g c = λ p off.
     c.prepare.ensures.others p
     (λ a here. off a (subst (λ b. Contains (touched b) a) c.destination_burst.ensures.value
     (part_touched b (length (g.M.Ram.paged c.args.memory.now).image) c.part_below-part.result.addr c.part_below-part.result.len a
-    c.destination_burst.ensures.some.beats addr len here)))
+    c.destination_burst.ensures.some.some.beats addr len here)))

@@ -11,5 +11,5 @@ returns g c =
     let addr = part.addr ∙ ap (λ a. min a (length m.image)) c.span.ensures.addr in
     let len = part.len ∙ rw (c.span.ensures.len, c.span.ensures.addr) refl in
     c.made.ensures
-    ∙ part_made m b c.part_below-part.result.addr c.part_below-part.result.len c.destination_burst.ensures.some.beats addr len
+    ∙ part_made m b c.part_below-part.result.addr c.part_below-part.result.len c.destination_burst.ensures.some.some.beats addr len
     ∙ ap (λ b. none_missing m (touched b)) c.destination_burst.ensures.value

@@ -1,6 +1,6 @@
 use Rattle.std.proofs.Common.{ℕ, ◌+◌, List, [], refl, sym, ap, ◌∙◌, subst, arith}
 use Rattle.dma_chan.specs.{Exec.State, Channel.state_of, Run.opening}
-use Rattle.dma_chan.proofs.RunAlone.{HasRun, made_at_end, made_at_refusal, made_on, run_on, stops_unread}
+use Rattle.dma_chan.proofs.RunAlone.{HasRun, made_at_end, made_at_refusal, made_on, made_past, run_on, stops_unread}
 use Rattle.dma_mem.specs.Lent.{with_gaps}
 use Rattle.dma_chan.specs.declared.run.RunEnd.TheVariants as ends
 use Rattle.dma_chan.proofs.run.run_on.Goals as goal
@@ -16,21 +16,17 @@ loop-turn-preserved g c =
     subst (λ (i : List ℕ). HasRun marks c.args.program.bytes s c.loop-turn.turn c.loop-turn.channel i c.loop-turn.events) (sym c.prepare.ensures.image)
     c.loop-turn.invariant.run in
     record {
-      run = run_on marks c.args.program.bytes s c.loop-turn.turn c.loop-turn.channel c.execute.new.self image (g.M.Ram.paged c.execute.new.memory).image
-          c.loop-turn.events c.execute.new.events c.execute.result h (rw (c.requires.none, loan) at step.turn) c.in-Moved.is
-          (rw (c.requires.none, loan) at step.memory) (rw (c.requires.none, loan) at step.events) (rw (c.requires.none, loan) at step.channel);
+      run = run_on h (rw (c.requires.none, loan) at step.turn) c.in-Moved.is (rw (c.requires.none, loan) at step.memory)
+          (rw (c.requires.none, loan) at step.events) (rw (c.requires.none, loan) at step.channel);
       known = rw step.pages (rw c.in-Ok-prepare.is at c.prepare.ensures.known);
       pages = λ p h. rw step.pages (c.prepare.ensures.keeps.made p (c.loop-turn.invariant.pages p h));
-      made = made_on marks c.args.program.bytes s c.loop-turn.turn c.loop-turn.channel (g.M.Ram.paged c.loop-turn.memory).image c.loop-turn.events
-          (g.M.Ram.paged c.args.memory.now) (g.M.Ram.paged c.loop-turn.memory) (g.M.Ram.paged c.prepare.new.memory) (g.M.Ram.paged c.execute.new.memory)
-          c.loop-turn.invariant.run c.loop-turn.invariant.made c.prepare.ensures.others step.pages;
+      made = made_on (g.M.Ram.paged c.args.memory.now) (g.M.Ram.paged c.loop-turn.memory) (g.M.Ram.paged c.prepare.new.memory)
+          (g.M.Ram.paged c.execute.new.memory) c.loop-turn.invariant.run c.loop-turn.invariant.made c.prepare.ensures.others step.pages;
       loan = c.execute.ensures.loan ∙ loan;
     }
 
 pub returns-in-Err-clause-ok : goal.returns-in-Err-clause-ok
 returns-in-Err-clause-ok g c =
-    let marks = with_gaps (g.M.Ram.loan c.args.memory.now) [] in
-    let s = opening (g.M.Ram.paged c.args.memory.now).image in
     let run = c.loop-turn.invariant.run in
     let image = (g.M.Ram.paged c.loop-turn.memory).image in
     let place = c.pc-pc.ensures ∙ sym (ap (λ (s : State). s.registers.pc) run.here) in
@@ -39,60 +35,42 @@ returns-in-Err-clause-ok g c =
       (
         c.loop-turn.turn,
         place,
-        stops_unread marks c.args.program.bytes s c.args.limit c.loop-turn.turn c.loop-turn.channel image c.loop-turn.events
-            c.in-Err.kind run c.loop-turn-test.true unread,
+        stops_unread run c.args.limit c.in-Err.kind c.loop-turn-test.true unread,
       ),
       refl,
     )
 
 pub returns-in-Err-clause-others : goal.returns-in-Err-clause-others
 returns-in-Err-clause-others g c =
-    let marks = with_gaps (g.M.Ram.loan c.args.memory.now) [] in
-    made_at_end marks c.args.program.bytes c.args.limit c.loop-turn.turn c.loop-turn.turn (ends.Fault c.in-Err.kind c.pc-pc.result)
+    made_at_end (with_gaps (g.M.Ram.loan c.args.memory.now) []) c.args.program.bytes c.args.limit c.loop-turn.turn (ends.Fault c.in-Err.kind c.pc-pc.result)
     (g.M.Ram.paged c.args.memory.now) (g.M.Ram.paged c.loop-turn.memory) c.loop-turn.invariant.made c.loop-turn.invariant.run.goes_on (omega arith)
-    (omega arith)
 
 pub returns-in-Err-prepare-clause-others : goal.returns-in-Err-prepare-clause-others
 returns-in-Err-prepare-clause-others g c =
-    let marks = with_gaps (g.M.Ram.loan c.args.memory.now) [] in
-    let s = opening (g.M.Ram.paged c.args.memory.now).image in
-    made_at_refusal marks c.args.program.bytes c.args.limit c.loop-turn.turn (g.M.Ram.paged c.args.memory.now) (g.M.Ram.paged c.prepare.new.memory)
-    (made_on marks c.args.program.bytes s c.loop-turn.turn c.loop-turn.channel (g.M.Ram.paged c.loop-turn.memory).image c.loop-turn.events
-    (g.M.Ram.paged c.args.memory.now) (g.M.Ram.paged c.loop-turn.memory) (g.M.Ram.paged c.prepare.new.memory) (g.M.Ram.paged c.prepare.new.memory)
-    c.loop-turn.invariant.run c.loop-turn.invariant.made c.prepare.ensures.others refl)
+    let new = g.M.Ram.paged c.prepare.new.memory in
+    made_at_refusal (with_gaps (g.M.Ram.loan c.args.memory.now) []) c.args.program.bytes c.args.limit c.loop-turn.turn (g.M.Ram.paged c.args.memory.now) new
+    (made_on (g.M.Ram.paged c.args.memory.now) (g.M.Ram.paged c.loop-turn.memory) new new c.loop-turn.invariant.run c.loop-turn.invariant.made
+    c.prepare.ensures.others refl)
 
 pub returns-in-Waiting-clause-others : goal.returns-in-Waiting-clause-others
 returns-in-Waiting-clause-others g c =
-    let marks = with_gaps (g.M.Ram.loan c.args.memory.now) [] in
-    let s = opening (g.M.Ram.paged c.args.memory.now).image in
-    let made = made_on marks c.args.program.bytes s c.loop-turn.turn c.loop-turn.channel (g.M.Ram.paged c.loop-turn.memory).image c.loop-turn.events
-    (g.M.Ram.paged c.args.memory.now) (g.M.Ram.paged c.loop-turn.memory) (g.M.Ram.paged c.prepare.new.memory) (g.M.Ram.paged c.execute.new.memory)
-    c.loop-turn.invariant.run c.loop-turn.invariant.made c.prepare.ensures.others c.execute.ensures.step.pages in
-    made_at_end marks c.args.program.bytes c.args.limit (c.loop-turn.turn + 1) c.loop-turn.turn (ends.Waiting c.in-Waiting.event)
-    (g.M.Ram.paged c.args.memory.now) (g.M.Ram.paged c.execute.new.memory) made c.loop-turn.invariant.run.goes_on (omega arith) (omega arith)
+    made_past c.args.limit (ends.Waiting c.in-Waiting.event) (g.M.Ram.paged c.args.memory.now) (g.M.Ram.paged c.loop-turn.memory)
+    (g.M.Ram.paged c.prepare.new.memory) (g.M.Ram.paged c.execute.new.memory) c.loop-turn.invariant.run c.loop-turn.invariant.made c.prepare.ensures.others
+    c.execute.ensures.step.pages (omega arith)
 
 pub returns-in-Ended-clause-others : goal.returns-in-Ended-clause-others
 returns-in-Ended-clause-others g c =
-    let marks = with_gaps (g.M.Ram.loan c.args.memory.now) [] in
-    let s = opening (g.M.Ram.paged c.args.memory.now).image in
-    let made = made_on marks c.args.program.bytes s c.loop-turn.turn c.loop-turn.channel (g.M.Ram.paged c.loop-turn.memory).image c.loop-turn.events
-    (g.M.Ram.paged c.args.memory.now) (g.M.Ram.paged c.loop-turn.memory) (g.M.Ram.paged c.prepare.new.memory) (g.M.Ram.paged c.execute.new.memory)
-    c.loop-turn.invariant.run c.loop-turn.invariant.made c.prepare.ensures.others c.execute.ensures.step.pages in
-    made_at_end marks c.args.program.bytes c.args.limit (c.loop-turn.turn + 1) c.loop-turn.turn (ends.Ended (c.loop-turn.turn + 1))
-    (g.M.Ram.paged c.args.memory.now) (g.M.Ram.paged c.execute.new.memory) made c.loop-turn.invariant.run.goes_on (omega arith) (omega arith)
+    made_past c.args.limit (ends.Ended (c.loop-turn.turn + 1)) (g.M.Ram.paged c.args.memory.now) (g.M.Ram.paged c.loop-turn.memory)
+    (g.M.Ram.paged c.prepare.new.memory) (g.M.Ram.paged c.execute.new.memory) c.loop-turn.invariant.run c.loop-turn.invariant.made c.prepare.ensures.others
+    c.execute.ensures.step.pages (omega arith)
 
 pub returns-in-Fault-clause-others : goal.returns-in-Fault-clause-others
 returns-in-Fault-clause-others g c =
-    let marks = with_gaps (g.M.Ram.loan c.args.memory.now) [] in
-    let s = opening (g.M.Ram.paged c.args.memory.now).image in
-    let made = made_on marks c.args.program.bytes s c.loop-turn.turn c.loop-turn.channel (g.M.Ram.paged c.loop-turn.memory).image c.loop-turn.events
-    (g.M.Ram.paged c.args.memory.now) (g.M.Ram.paged c.loop-turn.memory) (g.M.Ram.paged c.prepare.new.memory) (g.M.Ram.paged c.execute.new.memory)
-    c.loop-turn.invariant.run c.loop-turn.invariant.made c.prepare.ensures.others c.execute.ensures.step.pages in
-    made_at_end marks c.args.program.bytes c.args.limit (c.loop-turn.turn + 1) c.loop-turn.turn (ends.Fault c.in-Fault.kind c.pc-pc.result)
-    (g.M.Ram.paged c.args.memory.now) (g.M.Ram.paged c.execute.new.memory) made c.loop-turn.invariant.run.goes_on (omega arith) (omega arith)
+    made_past c.args.limit (ends.Fault c.in-Fault.kind c.pc-pc.result) (g.M.Ram.paged c.args.memory.now) (g.M.Ram.paged c.loop-turn.memory)
+    (g.M.Ram.paged c.prepare.new.memory) (g.M.Ram.paged c.execute.new.memory) c.loop-turn.invariant.run c.loop-turn.invariant.made c.prepare.ensures.others
+    c.execute.ensures.step.pages (omega arith)
 
 pub returns-clause-others : goal.returns-clause-others
 returns-clause-others g c =
-    let marks = with_gaps (g.M.Ram.loan c.args.memory.now) [] in
-    made_at_end marks c.args.program.bytes c.args.limit c.loop-turn.turn c.loop-turn.turn ends.OutOfTurns (g.M.Ram.paged c.args.memory.now)
-    (g.M.Ram.paged c.loop-turn.memory) c.loop-turn.invariant.made c.loop-turn.invariant.run.goes_on (omega arith) (omega arith)
+    made_at_end (with_gaps (g.M.Ram.loan c.args.memory.now) []) c.args.program.bytes c.args.limit c.loop-turn.turn ends.OutOfTurns
+    (g.M.Ram.paged c.args.memory.now) (g.M.Ram.paged c.loop-turn.memory) c.loop-turn.invariant.made c.loop-turn.invariant.run.goes_on (omega arith)

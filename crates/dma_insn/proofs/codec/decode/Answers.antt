@@ -1,22 +1,22 @@
 use Rattle.std.proofs.Common.{arith, ◌∙◌}
-use Rattle.dma_insn.proofs.Laws.{decoded_at, decoded_right, right_ok, right_err, none_spelled, within_ok}
+use Rattle.dma_insn.proofs.GrammarLaws.{decoded_at, none_spelled, right_err, right_ok, right_within}
+use Rattle.dma_insn.proofs.Laws.{decoded_right, decodes}
 use Rattle.dma_insn.proofs.codec.decode.Goals as goal
 
 pub returns-clause-found : goal.returns-clause-found
 returns-clause-found c =
-    rw c.read.ensures (right_ok c.args.bytes.now _ (decoded_right c.args.bytes.now (λ i. omega (arith, c.type_inv.bytes i))))
+    rw c.read.ensures (right_ok decodes c.args.bytes.now _ (decoded_right c.args.bytes.now (λ i. omega (arith, c.type_inv.bytes i))))
 
 pub returns-clause-only : goal.returns-clause-only
-returns-clause-only c i n h = c.read.ensures ∙ decoded_at c.args.bytes.now i n h
+returns-clause-only c i n h = c.read.ensures ∙ decoded_at decodes c.args.bytes.now i n h
 
 pub returns-clause-none : goal.returns-clause-none
-returns-clause-none c = none_spelled c.args.bytes.now c.read.result c.read.ensures
+returns-clause-none c = none_spelled decodes c.args.bytes.now c.read.result c.read.ensures
 
 pub returns-clause-refused : goal.returns-clause-refused
 returns-clause-refused c =
-    rw c.read.ensures (right_err c.args.bytes.now _ (decoded_right c.args.bytes.now (λ i. omega (arith, c.type_inv.bytes i))))
+    rw c.read.ensures (right_err decodes c.args.bytes.now _ (decoded_right c.args.bytes.now (λ i. omega (arith, c.type_inv.bytes i))))
 
 pub returns-clause-within : goal.returns-clause-within
 returns-clause-within c =
-    within_ok c.args.bytes.now c.read.result
-    (rw c.read.ensures (right_ok c.args.bytes.now _ (decoded_right c.args.bytes.now (λ i. omega (arith, c.type_inv.bytes i)))))
+    rw c.read.ensures (right_within decodes c.args.bytes.now _ (decoded_right c.args.bytes.now (λ i. omega (arith, c.type_inv.bytes i))))

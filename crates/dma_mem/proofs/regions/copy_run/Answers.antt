@@ -1,5 +1,5 @@
 use Rattle.std.proofs.Common.{◌≡◌, ℕ, ◌+◌, ◌-◌, ◌≤◌, ◌++◌, ◌∷◌, List, Vec, Global, vec_capacity, length, min, take, drop, true, false, arith, ap, sym, ◌∙◌}
-use Rattle.std.proofs.{lemmas.List.length-append, lemmas.List.length-take-le, lemmas.Grind.common_steps}
+use Rattle.std.proofs.{lemmas.List.length-append, lemmas.List.length-take-le}
 use Rattle.dma_mem.specs.{declared.regions.Region.Region, Regions.pieces_of, Regions.piece_of, Regions.has, Regions.run_from}
 use Rattle.dma_mem.proofs.{RegionSearch.drop_item, RunsCopied.run_copied, RunsCopied.run_past, regions.copy_run.Goals.then-has+in-Ok}
 use Rattle.dma_mem.proofs.{regions.copy_run.Goals.else-has}
@@ -52,6 +52,3 @@ loop-region-preserved c =
                 ∙ so_far;
           }
     ]
-
-pub returns-clause-run : goal.returns-clause-run
-returns-clause-run c = grind (arith, common_steps)

@@ -6,8 +6,7 @@ use Rattle.dma_trace.specs.Traced.{row_text}
 use Rattle.dma_trace.proofs.lines.push_dump.Goals as goal
 
 pub returns-in_err-push_row-clause-begins : goal.returns-in_err-push_row-clause-begins
-returns-in_err-push_row-clause-begins c =
-    begins_more _ _ _ (begins_appended _ _ _ c.loop-row.invariant.text) c.push_row.ensures.begins
+returns-in_err-push_row-clause-begins c = begins_more _ _ _ (begins_appended _ _ _ c.loop-row.invariant.text) c.push_row.ensures.begins
 
 -- one more row
 rows_suc : (f : ℕ → List ℕ) (a n j : ℕ) → a + n ≡ j → flat_map f (range_with_len a (suc n)) ≡ flat_map f (range_with_len a n) ++ f j

@@ -4,8 +4,7 @@ use Rattle.dma_text.proofs.Begun.{begins_appended, begins_more}
 use Rattle.dma_trace.proofs.lines.push_dumps.Goals as goal
 
 pub returns-in_err-push_dump-clause-begins : goal.returns-in_err-push_dump-clause-begins
-returns-in_err-push_dump-clause-begins c =
-    begins_more _ _ _ (begins_appended _ _ _ c.loop-segment.invariant.text) c.push_dump.ensures.begins
+returns-in_err-push_dump-clause-begins c = begins_more _ _ _ (begins_appended _ _ _ c.loop-segment.invariant.text) c.push_dump.ensures.begins
 
 pub loop-segment-init : goal.loop-segment-init
 loop-segment-init c = grind (arith, common_steps)
@@ -16,8 +15,5 @@ returns-in_err-push_dump-clause-ok c = grind (arith, common_steps)
 pub loop-segment-preserved : goal.loop-segment-preserved
 loop-segment-preserved c = grind (arith, common_steps)
 
-pub returns-clause-ok : goal.returns-clause-ok
-returns-clause-ok c = grind (arith, common_steps)
-
-pub returns-clause-begins : goal.returns-clause-begins
-returns-clause-begins c = grind (arith, common_steps)
+pub returns : goal.returns
+returns c = grind (arith, common_steps)

@@ -3,8 +3,9 @@ use Rattle.dma_text.proofs.Begun.{begins_appended, begins_more, begins_same}
 use Rattle.dma_insn.specs.declared.chip.ChipInsn.{ChipInsn}
 use Rattle.dma_mem.specs.Regions.{image_of, pieces_of}
 use Rattle.dma_chan.specs.{declared.turn.FaultKind.FaultKind, Channel.ChannelValue, Channel.ahead_of, LentRegions.with_gaps_of}
+use Rattle.dma_explain.proofs.InOrder.{in_order_kept}
 use Rattle.dma_trace.specs.{Traced.opening, Traced.shown_line, Wave.executing}
-use Rattle.dma_trace.proofs.Running.{begins, ends, fetched, front_there, goes_on, in_order_kept, moment_there, program_there, stops, took}
+use Rattle.dma_trace.proofs.Running.{begins, ends, fetched, front_there, goes_on, moment_there, program_there, stops, took}
 use Rattle.dma_trace.proofs.{Steps.on_ok, Waves.wave_begins, Waves.wave_on}
 use Rattle.dma_trace.proofs.trace.run.Goals as goal
 
@@ -108,8 +109,7 @@ returns-in_default g c =
     }
 
 pub returns-in_err-push_step-clause-begins : goal.returns-in_err-push_step-clause-begins
-returns-in_err-push_step-clause-begins g c =
-    begins_more _ _ _ (begins_appended _ _ _ c.loop-steps.invariant.goes.text) c.push_step.ensures.begins
+returns-in_err-push_step-clause-begins g c = begins_more _ _ _ (begins_appended _ _ _ c.loop-steps.invariant.goes.text) c.push_step.ensures.begins
 
 pub returns-in_err-push_step-clause-begins_err : goal.returns-in_err-push_step-clause-begins_err
 returns-in_err-push_step-clause-begins_err g c = begins_same _ _ c.loop-steps.invariant.err
@@ -118,15 +118,13 @@ pub returns-in_err-push_step-clause-begins_wave : goal.returns-in_err-push_step-
 returns-in_err-push_step-clause-begins_wave g c = begins_appended _ _ _ c.loop-steps.invariant.wave.text
 
 pub returns-in_err-push_next-clause-begins : goal.returns-in_err-push_next-clause-begins
-returns-in_err-push_next-clause-begins g c =
-    begins_more _ _ _ (begins_appended _ _ _ c.loop-steps.invariant.goes.text) c.push_step.ensures.begins
+returns-in_err-push_next-clause-begins g c = begins_more _ _ _ (begins_appended _ _ _ c.loop-steps.invariant.goes.text) c.push_step.ensures.begins
 
 pub returns-in_err-push_next-clause-begins_err : goal.returns-in_err-push_next-clause-begins_err
 returns-in_err-push_next-clause-begins_err g c = begins_same _ _ c.loop-steps.invariant.err
 
 pub returns-in_err-push_next-clause-begins_wave : goal.returns-in_err-push_next-clause-begins_wave
-returns-in_err-push_next-clause-begins_wave g c =
-    begins_more _ _ _ (begins_appended _ _ _ c.loop-steps.invariant.wave.text) c.push_next.ensures.begins
+returns-in_err-push_next-clause-begins_wave g c = begins_more _ _ _ (begins_appended _ _ _ c.loop-steps.invariant.wave.text) c.push_next.ensures.begins
 
 pub returns-clause-ok : goal.returns-clause-ok
 returns-clause-ok g c =
@@ -137,13 +135,10 @@ returns-clause-ok g c =
     (λ good e waved. ends now.invariant.goes limit c.ahead.ensures c.stored-stored-2.ensures now.invariant.err e now.invariant.wave waved) done.ok done.wave
 
 pub returns-clause-begins : goal.returns-clause-begins
-returns-clause-begins g c =
-    begins_more _ _ _ (begins_appended _ _ _ c.loop-steps.invariant.goes.text) c.finish-2.ensures.begins
+returns-clause-begins g c = begins_more _ _ _ (begins_appended _ _ _ c.loop-steps.invariant.goes.text) c.finish-2.ensures.begins
 
 pub returns-clause-begins_err : goal.returns-clause-begins_err
-returns-clause-begins_err g c =
-    begins_more _ _ _ (begins_same _ _ c.loop-steps.invariant.err) c.finish-2.ensures.begins_err
+returns-clause-begins_err g c = begins_more _ _ _ (begins_same _ _ c.loop-steps.invariant.err) c.finish-2.ensures.begins_err
 
 pub returns-clause-begins_wave : goal.returns-clause-begins_wave
-returns-clause-begins_wave g c =
-    begins_more _ _ _ (begins_appended _ _ _ c.loop-steps.invariant.wave.text) c.finish-2.ensures.begins_wave
+returns-clause-begins_wave g c = begins_more _ _ _ (begins_appended _ _ _ c.loop-steps.invariant.wave.text) c.finish-2.ensures.begins_wave

@@ -3,8 +3,9 @@ use Rattle.std.proofs.lemmas.Grind.{common_steps}
 use Rattle.std.specs.Prelude.{flat_map, map}
 use Rattle.dma_mem.specs.{declared.segment.Segment.Segment, Lent.marks_at, Marking.MarkList, Regions.image_of, Regions.pieces_of}
 use Rattle.dma_chan.specs.LentRegions.{segment_of, with_gaps_of}
+use Rattle.dma_explain.proofs.InOrder.{in_order_kept}
 use Rattle.dma_trace.specs.{Traced.dump_text, Traced.opening, inner.Running.Runs}
-use Rattle.dma_trace.proofs.Running.{in_order_kept, shows}
+use Rattle.dma_trace.proofs.Running.{shows}
 use Rattle.dma_trace.proofs.trace.trace_all.Goals as goal
 
 pub returns-clause-ok : goal.returns-clause-ok
@@ -22,77 +23,23 @@ returns-clause-ok g c =
     c.run.new.err.items c.run.new.wave.items c.if-program-gt-MAX_PROGRAM_BYTES.false c.in_ok-good.ensures.places
     (in_order_kept first left c.in_ok-good.ensures.places c.requires.order) runs dumped
 
-pub returns-in_err-marks-clause-ok : goal.returns-in_err-marks-clause-ok
-returns-in_err-marks-clause-ok c = grind (arith, common_steps)
+pub returns-in_err-marks : goal.returns-in_err-marks
+returns-in_err-marks c = grind (arith, common_steps)
 
-pub returns-in_err-marks-clause-begins : goal.returns-in_err-marks-clause-begins
-returns-in_err-marks-clause-begins c = grind (arith, common_steps)
+pub returns-in_err-channel : goal.returns-in_err-channel
+returns-in_err-channel c = grind (arith, common_steps)
 
-pub returns-in_err-marks-clause-begins_err : goal.returns-in_err-marks-clause-begins_err
-returns-in_err-marks-clause-begins_err c = grind (arith, common_steps)
+pub returns-in_err-push : goal.returns-in_err-push
+returns-in_err-push c = grind (arith, common_steps)
 
-pub returns-in_err-marks-clause-begins_wave : goal.returns-in_err-marks-clause-begins_wave
-returns-in_err-marks-clause-begins_wave c = grind (arith, common_steps)
+pub returns-then-program-gt-MAX_PROGRAM_BYTES : goal.returns-then-program-gt-MAX_PROGRAM_BYTES
+returns-then-program-gt-MAX_PROGRAM_BYTES c = grind (arith, common_steps)
 
-pub returns-in_err-channel-clause-ok : goal.returns-in_err-channel-clause-ok
-returns-in_err-channel-clause-ok c = grind (arith, common_steps)
+pub returns-in_err-good : goal.returns-in_err-good
+returns-in_err-good c = grind (arith, common_steps)
 
-pub returns-in_err-channel-clause-begins : goal.returns-in_err-channel-clause-begins
-returns-in_err-channel-clause-begins c = grind (arith, common_steps)
-
-pub returns-in_err-channel-clause-begins_err : goal.returns-in_err-channel-clause-begins_err
-returns-in_err-channel-clause-begins_err c = grind (arith, common_steps)
-
-pub returns-in_err-channel-clause-begins_wave : goal.returns-in_err-channel-clause-begins_wave
-returns-in_err-channel-clause-begins_wave c = grind (arith, common_steps)
-
-pub returns-in_err-push-clause-ok : goal.returns-in_err-push-clause-ok
-returns-in_err-push-clause-ok c = grind (arith, common_steps)
-
-pub returns-in_err-push-clause-begins : goal.returns-in_err-push-clause-begins
-returns-in_err-push-clause-begins c = grind (arith, common_steps)
-
-pub returns-in_err-push-clause-begins_err : goal.returns-in_err-push-clause-begins_err
-returns-in_err-push-clause-begins_err c = grind (arith, common_steps)
-
-pub returns-in_err-push-clause-begins_wave : goal.returns-in_err-push-clause-begins_wave
-returns-in_err-push-clause-begins_wave c = grind (arith, common_steps)
-
-pub returns-then-program-gt-MAX_PROGRAM_BYTES-clause-ok : goal.returns-then-program-gt-MAX_PROGRAM_BYTES-clause-ok
-returns-then-program-gt-MAX_PROGRAM_BYTES-clause-ok c = grind (arith, common_steps)
-
-pub returns-then-program-gt-MAX_PROGRAM_BYTES-clause-begins : goal.returns-then-program-gt-MAX_PROGRAM_BYTES-clause-begins
-returns-then-program-gt-MAX_PROGRAM_BYTES-clause-begins c = grind (arith, common_steps)
-
-pub returns-then-program-gt-MAX_PROGRAM_BYTES-clause-begins_err : goal.returns-then-program-gt-MAX_PROGRAM_BYTES-clause-begins_err
-returns-then-program-gt-MAX_PROGRAM_BYTES-clause-begins_err c = grind (arith, common_steps)
-
-pub returns-then-program-gt-MAX_PROGRAM_BYTES-clause-begins_wave : goal.returns-then-program-gt-MAX_PROGRAM_BYTES-clause-begins_wave
-returns-then-program-gt-MAX_PROGRAM_BYTES-clause-begins_wave c = grind (arith, common_steps)
-
-pub returns-in_err-good-clause-ok : goal.returns-in_err-good-clause-ok
-returns-in_err-good-clause-ok c = grind (arith, common_steps)
-
-pub returns-in_err-good-clause-begins : goal.returns-in_err-good-clause-begins
-returns-in_err-good-clause-begins c = grind (arith, common_steps)
-
-pub returns-in_err-good-clause-begins_err : goal.returns-in_err-good-clause-begins_err
-returns-in_err-good-clause-begins_err c = grind (arith, common_steps)
-
-pub returns-in_err-good-clause-begins_wave : goal.returns-in_err-good-clause-begins_wave
-returns-in_err-good-clause-begins_wave c = grind (arith, common_steps)
-
-pub returns-in_err-push_dumps-clause-ok : goal.returns-in_err-push_dumps-clause-ok
-returns-in_err-push_dumps-clause-ok c = grind (arith, common_steps)
-
-pub returns-in_err-push_dumps-clause-begins : goal.returns-in_err-push_dumps-clause-begins
-returns-in_err-push_dumps-clause-begins c = grind (arith, common_steps)
-
-pub returns-in_err-push_dumps-clause-begins_err : goal.returns-in_err-push_dumps-clause-begins_err
-returns-in_err-push_dumps-clause-begins_err c = grind (arith, common_steps)
-
-pub returns-in_err-push_dumps-clause-begins_wave : goal.returns-in_err-push_dumps-clause-begins_wave
-returns-in_err-push_dumps-clause-begins_wave c = grind (arith, common_steps)
+pub returns-in_err-push_dumps : goal.returns-in_err-push_dumps
+returns-in_err-push_dumps c = grind (arith, common_steps)
 
 pub returns-clause-begins : goal.returns-clause-begins
 returns-clause-begins c = grind (arith, common_steps)

@@ -5,5 +5,5 @@ use Rattle.dma_why.proofs.waits.signallers.Goals as goal
 
 pub loop-ch-preserved : goal.loop-ch-preserved
 loop-ch-preserved c =
-    items_more (signallers_on (object_of c.args.engine.now.view) c.args.event) c.loop-ch.found.items c.push_signallers.new.found.items c.loop-ch.ch
-    c.loop-ch.invariant c.in_ok-push_signallers.ensures
+    items_more (signallers_on (object_of c.args.engine.now.view) c.args.event) _ _ c.loop-ch.ch c.loop-ch.invariant
+    c.in_ok-push_signallers.ensures

@@ -4,4 +4,4 @@ use Rattle.dma_why.proofs.waits.waits.Goals as goal
 
 pub loop-ch-preserved : goal.loop-ch-preserved
 loop-ch-preserved c =
-    items_more (waits_on c.args.engine.now.view) c.loop-ch.waits.items c.push_waits.new.waits.items c.loop-ch.ch c.loop-ch.invariant c.in_ok-push_waits.ensures
+    items_more (waits_on c.args.engine.now.view) _ _ c.loop-ch.ch c.loop-ch.invariant c.in_ok-push_waits.ensures

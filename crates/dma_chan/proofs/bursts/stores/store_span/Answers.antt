@@ -4,18 +4,18 @@ use Rattle.dma_chan.proofs.bursts.stores.store_span.Goals as goal
 
 pub overflow_sub-overwritten : goal.overflow_sub-overwritten
 overflow_sub-overwritten g c =
-    omega (arith, c.span.ensures.len, c.len-len.ensures.value, span_within c.args.burst c.requires.some)
+    omega (arith, c.span.ensures.len, c.len-len.ensures.value, span_within c.args.burst c.requires.some.some)
 
 pub put-requires-clause-made : goal.put-requires-clause-made
 put-requires-clause-made g c =
-    span_made (g.M.Ram.paged c.args.memory.now) c.args.burst _ c.requires.some.beats c.requires.ready c.requires.within
+    span_made (g.M.Ram.paged c.args.memory.now) c.args.burst _ c.requires.some.some.beats c.requires.ready c.requires.within
     (omega (
       arith,
       ap length c.as_slice.ensures,
       c.span.ensures.len,
       c.len-len.ensures.value,
       c.requires.bytes,
-      span_within c.args.burst c.requires.some,
+      span_within c.args.burst c.requires.some.some,
       length-take {A = ℕ},
       length-drop {A = ℕ},
     ))

@@ -1,11 +1,7 @@
 use Rattle.std.proofs.Common.{arith}
-use Rattle.std.proofs.lemmas.Grind.{common_steps}
 use Rattle.dma_chan.specs.Compiled.{parts}
 use Rattle.dma_chan.proofs.TreeCosts.{cost_counted}
 use Rattle.dma_chan.proofs.compile.counts.parts_cost.Goals as goal
-
-pub returns-clause-limit : goal.returns-clause-limit
-returns-clause-limit c = grind (arith, common_steps)
 
 pub returns-clause-value : goal.returns-clause-value
 unfolding parts

@@ -20,7 +20,7 @@ returns-in-Err-submit c =
     let result = c.print_line-in-Err-submit.result in
     let print = c.print_line-in-Err-submit.ensures in
     fit_runs (copied start v) v _ _ _ _ _ _ c.in-Ok.ensures.ok c.in-Ok.ensures.accepted
-    (refused_copy_runs start v _ c.in-Ok.transfer c.in-Err-submit.refused.fault result _ _ (sym c.is_in_use.ensures ∙ c.if-is_in_use.false)
+    (refused_copy_runs start v c.in-Ok.transfer (sym c.is_in_use.ensures ∙ c.if-is_in_use.false) _ c.in-Err-submit.refused.fault result _ _
     c.in-Err-submit.ensures.answer (on_ok_weaker result (λ p. p.1) print.printed) print.ok print.err)
 
 pub returns-in_ok-last-in-Ok-submit : goal.returns-in_ok-last-in-Ok-submit
@@ -29,6 +29,6 @@ returns-in_ok-last-in-Ok-submit c =
     let start = c.args.start.now in
     let print = c.print_line-in-Ok-submit.ensures in
     fit_runs (copied start v) v _ _ _ _ _ _ c.in-Ok.ensures.ok c.in-Ok.ensures.accepted
-    (copy_runs start v c.submit.new.self.view c.reply_to.new.engine.view _ c.in-Ok.transfer _ _ c.in_ok-last-in-Ok-submit.last _ _ _
-    (sym c.is_in_use.ensures ∙ c.if-is_in_use.false) c.in-Ok-submit.ensures.answer c.in_ok-reply_to-in-Ok-submit.ensures.answer
+    (copy_runs start v c.in-Ok.transfer (sym c.is_in_use.ensures ∙ c.if-is_in_use.false) c.submit.new.self.view c.reply_to.new.engine.view _ _ _
+    c.in_ok-last-in-Ok-submit.last _ _ _ c.in-Ok-submit.ensures.answer c.in_ok-reply_to-in-Ok-submit.ensures.answer
     c.in_ok-last-in-Ok-submit.ensures print.ok print.err)

@@ -48,9 +48,9 @@ loop-left-preserved c =
 
 pub returns : goal.returns
 returns c =
-    whole_runs c.args.engine.now.view c.advance-first.new.self.view c.args.ch c.args.count c.advance-first.result (c.in-Some.started, c.in-Some.finished)
-    c.print_transfer.result c.args.out.now.items c.print_transfer.new.out.items
-    c.advance-first.ensures.answers c.in-Some.ensures c.if-first-gt0.true c.if-count-first-eq2.true c.print_transfer.ensures.ok c.print_transfer.ensures.err
+    whole_runs c.args.engine.now.view c.advance-first.new.self.view c.args.ch c.args.count c.advance-first.result c.advance-first.ensures.answers
+    c.if-first-gt0.true c.if-count-first-eq2.true (c.in-Some.started, c.in-Some.finished) c.print_transfer.result c.args.out.now.items
+    c.print_transfer.new.out.items c.in-Some.ensures c.print_transfer.ensures.ok c.print_transfer.ensures.err
 
 pub returns-2 : goal.returns-2
 returns-2 c =

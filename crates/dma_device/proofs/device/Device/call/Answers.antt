@@ -1,4 +1,5 @@
-use Rattle.std.proofs.Common.{◌≡◌, ◌∙◌, ℕ, ◌+◌, ◌%◌, ◌^◌, ◌<◌, ◌≤◌, Some, ap, refl, rules, subst, sym, arith}
+use Rattle.std.proofs.Common.{◌≡◌, ◌∙◌, ◌+◌, ◌%◌, ◌^◌, ◌<◌, Some, ap, refl, rules, subst, sym, arith}
+use Rattle.std.proofs.lemmas.Grind.{common_steps}
 use Rattle.std.specs.Prelude.{slice_get}
 use Rattle.dma_mem.specs.Flags.{flags_of}
 use Rattle.dma_mem.proofs.Steps.{taken_few}
@@ -32,9 +33,7 @@ invariant_of-self c =
     (record t { channel = channel }) c.step_regions-taken.result.signal steps refl))
 
 pub returns-clause-few : goal.returns-clause-few
-returns-clause-few c =
-    let steps = c.step_regions-taken.ensures.steps in
-    subst (λ (k : ℕ). k ≤ c.args.most) (sym steps.count) (taken_few _ c.args.most)
+returns-clause-few c = grind (arith, common_steps, taken_few)
 
 pub returns-clause-calls : goal.returns-clause-calls
 returns-clause-calls c =

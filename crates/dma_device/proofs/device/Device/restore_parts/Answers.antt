@@ -2,7 +2,7 @@ use Rattle.std.proofs.Common.{◌≡◌, ◌∙◌, List, ap, arith, drop, lengt
 use Rattle.std.proofs.lemmas.List.{take-append-drop, with_items_is}
 use Rattle.std.specs.{List.All, List.flat_map, Vec.with_items}
 use Rattle.dma_device.specs.Snapshot.{HasKnownEvents, IsDeviceValue, IsThreadValue, head_in, head_of, parts_in, saved_thread}
-use Rattle.dma_device.specs.{Device.DeviceValue, Thread.IsOn, Thread.IsSound, declared.config.Config.Config, declared.save.head.Head.Head}
+use Rattle.dma_device.specs.{Device.DeviceValue, Thread.IsOn, declared.config.Config.Config, declared.save.head.Head.Head}
 use Rattle.dma_device.specs.{declared.thread.Thread.Thread, inner.Saves.HasHeadRanges}
 use Rattle.dma_device.proofs.SavedDevices.{tail_is, device_ranges_in, device_value_is, from_head, known_in, threads_behind}
 use Rattle.dma_device.proofs.{Sound.are_on, Sound.on_of, Sound.with_parts, device.Device.restore_parts.Goals.After-restore_threads}
@@ -19,10 +19,6 @@ returns-in_default-clause-all c d v config e =
     let found = c.in_default.ensures.only (head_in c.args.version d) (flat_map saved_thread d.threads) (device_ranges_in c.args.version d v)
     (known_in c.args.version d v) refl same e in
     absurd (cc found)
-
-pub restore_threads-requires-clause-sound : goal.restore_threads-requires-clause-sound
-restore_threads-requires-clause-sound c =
-    subst (All (IsSound c.self.inside.config.events)) (sym c.deref_mut.ensures.value) c.self.invariant.sound.threads
 
 pub restore_threads-requires-clause-on : goal.restore_threads-requires-clause-on
 restore_threads-requires-clause-on c =

@@ -1,23 +1,7 @@
-use Rattle.std.proofs.Common.{◌≡◌, ◌∙◌, ◌+◌, ◌++◌, ap, arith, drop, length, sym, take}
-use Rattle.std.proofs.{lemmas.Grind.common_steps, lemmas.Bool.le-leb, lemmas.Bool.lt-leb, lemmas.List.drop-drop, lemmas.List.drop_at, lemmas.List.take_at}
+use Rattle.std.proofs.Common.{◌≡◌, ◌∙◌, ◌+◌, ◌++◌, ap, drop, length, sym, take}
+use Rattle.std.proofs.{lemmas.List.drop-drop, lemmas.List.drop_at, lemmas.List.take_at}
 use Rattle.dma_device.specs.Snapshot.{parts_in, saved_device}
-use Rattle.dma_device.proofs.SavedDevices.{own_length}
 use Rattle.dma_device.proofs.device.Device.save.Goals as goal
-
-pub returns-then-out-len-clause-limit : goal.returns-then-out-len-clause-limit
-returns-then-out-len-clause-limit c = omega (arith, own_length c.args.self.now, c.parts_len-len.ensures.len, c.parts_len-len.ensures.limit)
-
-pub returns-then-out-len-clause-room : goal.returns-then-out-len-clause-room
-returns-then-out-len-clause-room c = grind (arith, common_steps, lt-leb, own_length)
-
-pub returns-clause-len : goal.returns-clause-len
-returns-clause-len c = omega (arith, own_length c.args.self.now, c.parts_len-len.ensures.len)
-
-pub returns-clause-limit : goal.returns-clause-limit
-returns-clause-limit c = omega (arith, own_length c.args.self.now, c.parts_len-len.ensures.len, c.parts_len-len.ensures.limit)
-
-pub returns-clause-room : goal.returns-clause-room
-returns-clause-room c = grind (arith, common_steps, le-leb, own_length)
 
 pub returns-clause-bytes : goal.returns-clause-bytes
 unfolding saved_device

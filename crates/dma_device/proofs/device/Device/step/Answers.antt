@@ -3,8 +3,9 @@ use Rattle.std.specs.Prelude.{◌==◌, not}
 use Rattle.std.proofs.lemmas.Bool.{eq-eqb, ne_eqb}
 use Rattle.dma_insn.specs.ControlWord.{flag}
 use Rattle.dma_chan.specs.{LentRegions.with_gaps_of, Written.adjoins}
+use Rattle.dma_explain.proofs.InOrder.{in_order_kept}
 use Rattle.dma_device.specs.{Device.DeviceValue, Device.irq_abort, Device.irqs, Turns.Outcome, Turns.lines_differ, Turns.outcome_of}
-use Rattle.dma_device.proofs.{Calls.turn_is, InOrder.in_order_kept, Writes.second_beside}
+use Rattle.dma_device.proofs.{Calls.turn_is, Writes.second_beside}
 use mathlib.Core.Bool.{beq}
 use Rattle.dma_device.proofs.device.Device.step.Goals as goal
 

@@ -14,13 +14,9 @@ room d e ts out is threads fits = grind (arith, common_steps, device_length)
 
 pub save_threads-requires : goal.save_threads-requires
 save_threads-requires c =
-    omega (
-      arith,
-      room (device_value c.self.inside) c.args.self.now c.deref.result.now c.args.out.now c.self.view_is c.deref.ensures.value c.requires.room,
-      ap
-          length (tail_is 40 c.args.out.now),
-      length-take 40 c.args.out.now,
-    )
+    let d = device_value c.self.inside in
+    let fits = room d c.args.self.now c.deref.result.now c.args.out.now c.self.view_is c.deref.ensures.value c.requires.room in
+    omega (arith, fits, ap length (tail_is 40 c.args.out.now), length-take 40 c.args.out.now)
 
 pub slice_bounds-copy_from_slice-end-2 : goal.slice_bounds-copy_from_slice-end-2
 slice_bounds-copy_from_slice-end-2 c = sym (front_length 40 c.args.out.now c.save_threads.new.out c.requires.head)

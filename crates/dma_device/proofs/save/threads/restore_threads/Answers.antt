@@ -46,12 +46,6 @@ loop-n-preserved c =
           ∙ sym (take-suc ts n new less) ∙ ap (λ (m : ℕ). take m ts) (sym (add-one n));
     }
 
-pub returns-in_default-clause-sound : goal.returns-in_default-clause-sound
-returns-in_default-clause-sound c = grind (arith, common_steps)
-
-pub returns-in_default-clause-on : goal.returns-in_default-clause-on
-returns-in_default-clause-on c = grind (arith, common_steps)
-
 pub returns-in_default-clause-all : goal.returns-in_default-clause-all
 returns-in_default-clause-all c ts count values on is =
     let threads = c.loop-n.threads in

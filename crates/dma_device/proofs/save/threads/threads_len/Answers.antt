@@ -1,29 +1,19 @@
 use Rattle.std.proofs.Common.{◌≡◌, ◌∙◌, ℕ, ap, arith, get_or, inl, inr, length, subst, sym, take}
-use Rattle.std.proofs.{lemmas.Grind.common_steps, lemmas.Bool.cases_lt, lemmas.List.length-append, lemmas.List.take_all, lemmas.List.get_or_default}
+use Rattle.std.proofs.{lemmas.Bool.cases_lt, lemmas.List.length-append, lemmas.List.get_or_default}
 use Rattle.std.specs.List.{flat_map}
 use Rattle.dma_device.specs.Snapshot.{IsThreadValue, saved_thread}
 use Rattle.dma_device.proofs.SavedDevices.{one_more}
 use Rattle.dma_device.proofs.save.threads.threads_len.Goals as goal
-
-pub save_len-len-requires : goal.save_len-len-requires
-save_len-len-requires c = grind (arith, common_steps)
-
-pub overflow_add-len : goal.overflow_add-len
-overflow_add-len c = omega (arith, c.loop-n.invariant.limit, c.save_len-len.ensures.limit, c.requires.few)
 
 pub loop-n-preserved : goal.loop-n-preserved
 loop-n-preserved c =
     let ts = c.args.threads.now in
     let n = c.loop-n.n in
     let t = c.index-threads-n.result in
+    let more = ap length (one_more saved_thread ts n t (omega arith) c.index-threads-n.is) in
+    let sum = length-append (flat_map saved_thread (take n ts)) (saved_thread t) in
     record {
-      len = omega (
-        arith,
-        c.loop-n.invariant.len,
-        c.save_len-len.ensures.len,
-        ap length (one_more saved_thread ts n t (omega arith) c.index-threads-n.is),
-        length-append (flat_map saved_thread (take n ts)) (saved_thread t),
-      );
+      len = omega (arith, c.loop-n.invariant.len, c.save_len-len.ensures.len, more, sum);
       limit = omega (arith, c.loop-n.invariant.limit, c.save_len-len.ensures.limit);
       values = λ k d below. elim (cases_lt k n) [
         | inl early ↦ c.loop-n.invariant.values k d early
@@ -32,12 +22,6 @@ loop-n-preserved c =
             subst (IsThreadValue c.args.events) (sym here) c.save_len-len.ensures.value
       ];
     }
-
-pub returns-clause-len : goal.returns-clause-len
-returns-clause-len c = grind (arith, common_steps, take_all)
-
-pub returns-clause-limit : goal.returns-clause-limit
-returns-clause-limit c = omega (arith, c.loop-n.invariant.limit)
 
 pub returns-clause-values : goal.returns-clause-values
 returns-clause-values c = λ k d less. c.loop-n.invariant.values k d (omega arith)

@@ -1,8 +1,8 @@
 use Rattle.std.proofs.Common.{◌≡◌, ◌+◌, ◌<◌, ◌∙◌, ap, sym, arith, true, false}
 use Rattle.dma_mem.specs.Places.{lies_below}
-use Rattle.dma_engine.specs.View.{EngineState, channels, object_of, size}
-use Rattle.dma_engine.specs.{inner.Holds.view_of, inner.Inside.parts_of, Object.channel, Object.used}
-use Rattle.dma_engine.proofs.{CallCases.check_fine, CallCases.check_out, CallCases.check_spent, Queues.HoldsAt, Queues.holds_at, Queues.queue_there}
+use Rattle.dma_engine.specs.View.{channels, size, state_at}
+use Rattle.dma_engine.specs.{inner.Holds.view_of, inner.Inside.parts_of, Object.used}
+use Rattle.dma_engine.proofs.{CallCases.check_fine, CallCases.check_out, CallCases.check_spent, Queues.HoldsAt, Queues.seen, Queues.holds_there}
 use Rattle.dma_engine.proofs.{Sizes.size_is, engine.Engine.check_submit.Goals.After-index}
 use Rattle.dma_engine.proofs.engine.Engine.check_submit.Goals as goal
 
@@ -10,19 +10,15 @@ pub returns-then-not-lies_below-clause-checked : goal.returns-then-not-lies_belo
 returns-then-not-lies_below-clause-checked c =
     let p = parts_of c.self.inside in
     let v = c.args.self.now.view in
-    let is : view_of p ≡ v = ap (λ (s : EngineState). s.view) c.self.view_is in
+    let is : view_of p ≡ v = seen c.self.view_is in
     let there : c.args.ch < channels v = c.in_ok-index.ensures.there.1 in
     let out : lies_below c.args.transfer.now (size v) ≡ false = ap (lies_below c.args.transfer.now) (sym (size_is p c.self.invariant ∙ ap size is))
     ∙ sym c.if-not-lies_below.ensures.below in
-    check_out v c.args.ch (used (channel (object_of v) c.args.ch) + 1) c.args.transfer.now there out
+    check_out v c.args.ch (used (state_at v c.args.ch) + 1) c.args.transfer.now there out
 
 -- the queue that is read
 read : (c : After-index) → HoldsAt (parts_of c.self.inside) c.in_ok-index.index c.index.result.now
-read c =
-    let p = parts_of c.self.inside in
-    holds_at p c.self.invariant c.in_ok-index.index c.index.result.now
-    (queue_there p c.args.self.now.view c.args.ch c.in_ok-index.index c.self.invariant (ap (λ (s : EngineState). s.view) c.self.view_is)
-    c.in_ok-index.ensures.there) c.index.ensures
+read c = holds_there c.self.invariant (seen c.self.view_is) c.in_ok-index.ensures.there c.index.ensures
 
 pub returns-then-given-ge-LAST_COOKIE-clause-checked : goal.returns-then-given-ge-LAST_COOKIE-clause-checked
 returns-then-given-ge-LAST_COOKIE-clause-checked c =

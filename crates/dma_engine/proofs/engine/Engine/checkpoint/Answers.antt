@@ -6,6 +6,7 @@ use Rattle.dma_engine.specs.{declared.fault.EngineFault.TheVariants.NoMemory, de
 use Rattle.dma_mem.specs.declared.call.Call.TheVariants.{Checkpoint}
 use Rattle.dma_engine.proofs.CallCases.{checkpoint_done, checkpoint_refused, checkpoint_starved, named_none, refusal}
 use Rattle.dma_engine.proofs.{Boards.queue_small, Checkpoint.holds_next, Checkpoint.no_room_next, Checkpoint.view_next, Queues.holds_at}
+use Rattle.dma_engine.proofs.engine.Engine.checkpoint.Goals.{After-forget_all}
 use Rattle.dma_engine.proofs.engine.Engine.checkpoint.Goals as goal
 
 pub returns-in-Some-clause-answer : goal.returns-in-Some-clause-answer
@@ -28,36 +29,31 @@ forget_all-requires c = λ k d less.
     let small = queue_small (holds_at p c.self.invariant k q l (get_or_default p.queues k d q l)) in
     rw c.deref_mut.ensures.value (omega (arith, small))
 
+-- the queues after it
+all : (c : After-forget_all) → (with_items c.self.inside.queues c.forget_all.new.queues).items ≡ map queue_forgotten c.self.inside.queues.items
+all c =
+    let vec = c.self.inside.queues in
+    let forgotten : c.forget_all.new.queues ≡ map queue_forgotten vec.items = c.forget_all.ensures
+    ∙ ap (λ (l : List Queue). map queue_forgotten l) c.deref_mut.ensures.value in
+    let many : length c.forget_all.new.queues ≡ vec.len = omega (arith, ap length forgotten, length-map vec.items queue_forgotten, vec.ok.0) in
+    with_items_is vec c.forget_all.new.queues many ∙ forgotten
+
 pub invariant_of-self : goal.invariant_of-self
 invariant_of-self c =
     let p = parts_of c.self.inside in
     let base = rw (← c.self.view_is) at c.in_ok-base.ensures in
     let none = named_none (first_running (view_of p) (λ _. true)) (rw (← c.self.view_is) at c.in_default.ensures) in
-    let vec = c.self.inside.queues in
-    let forgotten : c.forget_all.new.queues ≡ map queue_forgotten vec.items = c.forget_all.ensures
-    ∙ ap (λ (l : List Queue). map queue_forgotten l) c.deref_mut.ensures.value in
-    let many : length c.forget_all.new.queues ≡ vec.len = omega (arith, ap length forgotten, length-map vec.items queue_forgotten, vec.ok.0) in
-    let all : (with_items vec c.forget_all.new.queues).items ≡ map queue_forgotten vec.items = with_items_is vec c.forget_all.new.queues many ∙ forgotten in
-    rw (all, base, c.new.ensures.items) (holds_next p c.self.invariant none)
+    rw (all (goal.at.invariant_of-self c).After-forget_all, base, c.new.ensures.items) (holds_next p c.self.invariant none)
 
 pub returns-clause-answer : goal.returns-clause-answer
 returns-clause-answer c =
     let p = parts_of c.self.inside in
     let base = rw (← c.self.view_is) at c.in_ok-base.ensures in
     let none = named_none (first_running (view_of p) (λ _. true)) (rw (← c.self.view_is) at c.in_default.ensures) in
-    let vec = c.self.inside.queues in
-    let forgotten : c.forget_all.new.queues ≡ map queue_forgotten vec.items = c.forget_all.ensures
-    ∙ ap (λ (l : List Queue). map queue_forgotten l) c.deref_mut.ensures.value in
-    let many : length c.forget_all.new.queues ≡ vec.len = omega (arith, ap length forgotten, length-map vec.items queue_forgotten, vec.ok.0) in
-    let all : (with_items vec c.forget_all.new.queues).items ≡ map queue_forgotten vec.items = with_items_is vec c.forget_all.new.queues many ∙ forgotten in
-    rw (← c.self.view_is, all, base, c.new.ensures.items)
+    rw (← c.self.view_is, all (goal.at.returns-clause-answer c).After-forget_all, base, c.new.ensures.items)
     (checkpoint_done (view_of p) _ none (view_next p))
 
 pub returns-clause-room : goal.returns-clause-room
 returns-clause-room c =
-    let vec = c.self.inside.queues in
-    let forgotten : c.forget_all.new.queues ≡ map queue_forgotten vec.items = c.forget_all.ensures
-    ∙ ap (λ (l : List Queue). map queue_forgotten l) c.deref_mut.ensures.value in
-    let many : length c.forget_all.new.queues ≡ vec.len = omega (arith, ap length forgotten, length-map vec.items queue_forgotten, vec.ok.0) in
-    let all : (with_items vec c.forget_all.new.queues).items ≡ map queue_forgotten vec.items = with_items_is vec c.forget_all.new.queues many ∙ forgotten in
-    (omega (arith, c.new.ensures.capacity, c.new.ensures.len), λ ch. rw all (no_room_next vec.items ch))
+    let after = all (goal.at.returns-clause-room c).After-forget_all in
+    (omega (arith, c.new.ensures.capacity, c.new.ensures.len), λ ch. rw after (no_room_next c.self.inside.queues.items ch))

@@ -8,10 +8,8 @@ use Rattle.dma_engine.proofs.engine.Engine.ending.Goals as goal
 
 pub failing_at-requires : goal.failing_at-requires
 failing_at-requires c =
-    let p = parts_of c.self.inside in
-    let q = c.index-queue.result.now in
     due_ahead c.in-Some.next
-    (due p c.self.invariant c.args.ch _ q (IsNext c.in-Some.next) c.from.ensures c.index-queue.ensures (rw (← c.self.view_is) at c.in-Some.ensures.due))
+    (due (IsNext c.in-Some.next) c.self.invariant c.from.ensures c.index-queue.ensures (rw (← c.self.view_is) at c.in-Some.ensures.due))
 
 pub returns-in_default-insn : goal.returns-in_default-insn
 returns-in_default-insn c =
@@ -20,7 +18,7 @@ returns-in_default-insn c =
     let ch = c.args.ch in
     let q = c.index-queue.result.now in
     let n = q.channel.taken in
-    let d = due p c.self.invariant ch _ q (IsNext c.in-Some.next) c.from.ensures c.index-queue.ensures (rw (← c.self.view_is) at c.in-Some.ensures.due) in
+    let d = due (IsNext c.in-Some.next) c.self.invariant c.from.ensures c.index-queue.ensures (rw (← c.self.view_is) at c.in-Some.ensures.due) in
     let t = d.it.transfer in
     let not_end : member t n ≢ End = λ e. c.in_default-insn.not-End (c.insn.ensures ∙ sym d.holds ∙ e) in
     let one = the_step d.it in

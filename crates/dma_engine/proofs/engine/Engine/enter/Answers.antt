@@ -3,41 +3,40 @@ use Rattle.dma_engine.specs.{inner.Due.Adds, inner.Due.IsNext, inner.Inside.part
 use Rattle.dma_engine.specs.{declared.fault.EngineFault.TheVariants.NoMemory, inner.Holds.view_of}
 use Rattle.dma_mem.specs.declared.call.Call.TheVariants.{Step}
 use Rattle.dma_engine.proofs.Instructions.{added_answers, added_starved, can_execute, holds_added, the_step}
-use Rattle.dma_engine.proofs.{CallCases.refusal, Queues.many_queues, StepCases.due}
+use Rattle.dma_engine.proofs.{CallCases.refusal, Queues.many_queues, StepCases.due, StepCases.Due, engine.Engine.enter.Goals.After-index_mut-queue}
 use Rattle.dma_engine.proofs.engine.Engine.enter.Goals as goal
 
 pub execute-requires : goal.execute-requires
 execute-requires c =
-    let d = due (parts_of c.self.inside) c.self.invariant c.args.ch _ c.index_mut-queue.result.now (IsNext c.args.next) c.from.ensures
-    c.index_mut-queue.ensures.value (rw (← c.self.view_is) at c.requires.due) in
+    let d = due (IsNext c.args.next) c.self.invariant c.from.ensures c.index_mut-queue.ensures.value (rw (← c.self.view_is) at c.requires.due) in
     let can = can_execute c.args.next c.self.inside.memory d refl in
     record { next = can.next; loaded = can.loaded; count = can.count; ready = can.ready }
 
+-- the instruction that adds the entry is due
+it : (c : After-index_mut-queue)
+    → Due (parts_of c.self.inside) c.args.ch c.index_mut-queue.result.now (Adds (view_of (parts_of c.self.inside)) c.args.ch c.args.entry)
+it c = due (Adds (view_of (parts_of c.self.inside)) c.args.ch c.args.entry) c.self.invariant c.from.ensures c.index_mut-queue.ensures.value
+    (rw (← c.self.view_is) at c.requires.adds)
+
 pub invariant_of-self-2 : goal.invariant_of-self-2
 invariant_of-self-2 c =
-    let p = parts_of c.self.inside in
-    let d = due p c.self.invariant c.args.ch _ c.index_mut-queue.result.now (Adds (view_of p) c.args.ch c.args.entry) c.from.ensures
-    c.index_mut-queue.ensures.value (rw (← c.self.view_is) at c.requires.adds) in
+    let d = it (goal.at.invariant_of-self-2 c).After-index_mut-queue in
     let one = the_step d.it in
+    let step = c.execute.ensures.step in
     rw (
       c.from.ensures,
       c.push_reserved.ensures.items,
       c.reserve.ensures.items,
-      c.execute.ensures.step.memory
-          ∙ one.image,
-      c.execute.ensures.step.pages,
-      c.execute.ensures.step.events ∙ one.flags,
-      c.execute.ensures.step.channel,
-    )
-    (holds_added c.args.entry d)
+      step.memory ∙ one.image,
+      step.pages,
+      step.events ∙ one.flags,
+      step.channel,
+    ) (holds_added c.args.entry d)
 
 pub returns-clause-answer : goal.returns-clause-answer
 returns-clause-answer c =
-    let p = parts_of c.self.inside in
-    let d = due p c.self.invariant c.args.ch _ c.index_mut-queue.result.now (Adds (view_of p) c.args.ch c.args.entry) c.from.ensures
-    c.index_mut-queue.ensures.value (rw (← c.self.view_is) at c.requires.adds) in
     rw (← c.self.view_is, c.push_reserved.ensures.items, c.reserve.ensures.items, c.execute.ensures.step.channel, c.from.ensures)
-    (added_answers c.args.entry d c.execute.new.memory.image c.execute.new.events)
+    (added_answers c.args.entry (it (goal.at.returns-clause-answer c).After-index_mut-queue) c.execute.new.memory.image c.execute.new.events)
 
 pub returns-in_err-reserve-clause-answer : goal.returns-in_err-reserve-clause-answer
 returns-in_err-reserve-clause-answer c =

@@ -1,10 +1,12 @@
 use Rattle.std.proofs.Common.{rules, ◌≡◌, ◌<◌, ◌+◌, ap, sym, ◌∙◌, subst, arith, length, Option}
-use Rattle.dma_engine.specs.View.{EngineState, object_of, channels, runs}
-use Rattle.dma_engine.specs.{declared.access.Ranges.Ranges, inner.Holds.view_of, inner.Inside.parts_of, Object.channel, Object.finished}
+use Rattle.dma_engine.specs.View.{EngineState, object_of, channels, runs, state_at}
+use Rattle.dma_engine.specs.{declared.access.Ranges.Ranges, inner.Inside.parts_of, Object.finished, inner.Holds.state_in}
 use Rattle.dma_engine.specs.{inner.Ranges.AreOfRunning, inner.Accesses.named, inner.Accesses.conflicts}
 use Rattle.dma_engine.proofs.Conflicts.{nothing_there, passed_over, way_here}
 use Rattle.dma_engine.proofs.{Boards.queue_small, Queues.holds_at, Queues.many_queues, Sizes.few_queues, WhatRuns.find_all, WhatRuns.find_none_more}
-use Rattle.dma_engine.proofs.{engine.Engine.first_conflict.Goals.in-Some+else-conflicts_with, engine.Engine.first_conflict.Goals.in_default}
+use Rattle.dma_engine.proofs.{engine.Engine.first_conflict.Goals.in-Some+else-conflicts_with, engine.Engine.first_conflict.Goals.in_default, Queues.seen}
+use Rattle.dma_engine.proofs.Queues.{HoldsAt}
+use Rattle.dma_engine.proofs.engine.Engine.first_conflict.Goals.{After-index-queue}
 use Rattle.dma_engine.proofs.engine.Engine.first_conflict.Goals as goal
 
 pub overflow_cast-result : goal.overflow_cast-result
@@ -12,36 +14,36 @@ overflow_cast-result c =
     let few = few_queues (parts_of c.self.inside) c.self.invariant in
     omega (arith, few, c.loop-index-test.true, c.len-index-end.ensures, c.self.inside.queues.ok.0)
 
+-- the queue that is read
+read : (c : After-index-queue) → HoldsAt (parts_of c.self.inside) c.loop-index.index c.index-queue.result.now
+read c =
+    holds_at (parts_of c.self.inside) c.self.invariant c.loop-index.index c.index-queue.result.now
+    (omega (arith, c.loop-index-test.true, c.len-index-end.ensures, c.self.inside.queues.ok.0)) c.index-queue.ensures
+
+-- the ranges that it keeps are of what runs in the view
+kept : (c : After-index-queue) → let v = c.args.self.now.view in AreOfRunning c.index-queue.result.now.ranges (runs (object_of v) v.schedule c.loop-index.index)
+kept c =
+    subst (λ (s : EngineState). AreOfRunning c.index-queue.result.now.ranges (runs (object_of s.view) s.view.schedule c.loop-index.index)) c.self.view_is
+    (read c).ranges
+
 pub finished-cookie-requires : goal.finished-cookie-requires
-finished-cookie-requires c =
-    let p = parts_of c.self.inside in
-    let less : c.loop-index.index < length p.queues = omega (arith, c.loop-index-test.true, c.len-index-end.ensures, c.self.inside.queues.ok.0) in
-    let small = queue_small (holds_at p c.self.invariant c.loop-index.index c.index-queue.result.now less c.index-queue.ensures) in
-    omega (arith, small)
+finished-cookie-requires c = omega (arith, queue_small (read (goal.at.finished-cookie-requires c).After-index-queue))
 
 pub overflow_add-cookie : goal.overflow_add-cookie
-overflow_add-cookie c =
-    let p = parts_of c.self.inside in
-    let less : c.loop-index.index < length p.queues = omega (arith, c.loop-index-test.true, c.len-index-end.ensures, c.self.inside.queues.ok.0) in
-    let small = queue_small (holds_at p c.self.invariant c.loop-index.index c.index-queue.result.now less c.index-queue.ensures) in
-    omega (arith, small, c.finished-cookie.ensures)
+overflow_add-cookie c = omega (arith, queue_small (read (goal.at.overflow_add-cookie c).After-index-queue), c.finished-cookie.ensures)
 
 pub returns-then-conflicts_with : goal.returns-then-conflicts_with
 returns-then-conflicts_with c =
     let p = parts_of c.self.inside in
     let v = c.args.self.now.view in
     let i = c.loop-index.index in
-    let q = c.index-queue.result.now in
-    let inside : i < length p.queues = omega (arith, c.loop-index-test.true, c.len-index-end.ensures, c.self.inside.queues.ok.0) in
-    let many = many_queues p c.self.invariant ∙ ap (λ (s : EngineState). channels s.view) c.self.view_is in
-    let less : i < length (object_of v).channels = omega (arith, many, inside) in
-    let at = holds_at p c.self.invariant i q inside c.index-queue.ensures in
-    let done : c.finished-cookie.result ≡ finished (channel (object_of (view_of p)) i) =
-    omega (arith, c.finished-cookie.ensures, at.tied.forgotten, ap length at.tied.outcomes) in
-    let number : c.finished-cookie.result + 1 ≡ finished (channel (object_of v) i) + 1 =
-    ap (λ n. n + 1) (done ∙ ap (λ (s : EngineState). finished (channel (object_of s.view) i)) c.self.view_is) in
-    let kept = subst (λ (s : EngineState). AreOfRunning q.ranges (runs (object_of s.view) s.view.schedule i)) c.self.view_is at.ranges in
-    let there = subst (λ (o : Option Ranges). AreOfRunning o (runs (object_of v) v.schedule i)) (sym c.in-Some.ensures) kept in
+    let here = (goal.at.returns-then-conflicts_with c).After-index-queue in
+    let at = read here in
+    let less : i < length (object_of v).channels = omega (arith, at.there, ap channels (seen c.self.view_is)) in
+    let done : c.finished-cookie.result ≡ finished (state_in p i) = omega (arith, c.finished-cookie.ensures, at.tied.forgotten, ap length at.tied.outcomes) in
+    let number : c.finished-cookie.result + 1 ≡ finished (state_at v i) + 1 =
+    ap (λ n. n + 1) (done ∙ ap (λ (s : EngineState). finished (state_at s.view i)) c.self.view_is) in
+    let there = subst (λ (o : Option Ranges). AreOfRunning o (runs (object_of v) v.schedule i)) (sym c.in-Some.ensures) (kept here) in
     search (
       rules,
       way_here (conflicts c.args.access.now) (object_of v) v.schedule i (c.finished-cookie.result + 1) c.in-Some.ranges.now less
@@ -50,15 +52,11 @@ returns-then-conflicts_with c =
 
 pub loop-index-preserved : goal.loop-index-preserved
 loop-index-preserved c =
-    let p = parts_of c.self.inside in
     let v = c.args.self.now.view in
     let test = conflicts c.args.access.now in
     let i = c.loop-index.index in
-    let q = c.index-queue.result.now in
     let x = runs (object_of v) v.schedule i in
-    let inside : i < length p.queues = omega (arith, c.loop-index-test.true, c.len-index-end.ensures, c.self.inside.queues.ok.0) in
-    let at = holds_at p c.self.invariant i q inside c.index-queue.ensures in
-    let kept = subst (λ (s : EngineState). AreOfRunning q.ranges (runs (object_of s.view) s.view.schedule i)) c.self.view_is at.ranges in
+    let kept = kept (goal.at.loop-index-preserved c).After-index-queue in
     find_none_more (λ r. test r.transfer) (object_of v) v.schedule i c.loop-index.invariant
     (elim c.match-ranges.branch [
       | in-Some+else-conflicts_with w ↦
@@ -70,7 +68,7 @@ pub returns : goal.returns
 returns c =
     let v = c.args.self.now.view in
     let test = conflicts c.args.access.now in
-    let many = many_queues (parts_of c.self.inside) c.self.invariant ∙ ap (λ (s : EngineState). channels s.view) c.self.view_is in
+    let many = many_queues (parts_of c.self.inside) c.self.invariant ∙ ap channels (seen c.self.view_is) in
     let all : length (object_of v).channels ≡ c.loop-index.index =
     omega (arith, many, c.loop-index-test.false, c.len-index-end.ensures, c.self.inside.queues.ok.0) in
     sym (ap named (find_all (λ r. test r.transfer) (object_of v) v.schedule c.loop-index.index all c.loop-index.invariant))

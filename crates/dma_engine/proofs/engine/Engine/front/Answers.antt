@@ -2,7 +2,7 @@ use Rattle.std.proofs.Common.{◌≡◌, ◌+◌, ◌∙◌, None, Some, arith, 
 use Rattle.std.specs.Option.{option_map}
 use Rattle.dma_mem.specs.Places.{Descriptor}
 use Rattle.dma_engine.specs.Object.{channel, finished, issued_front}
-use Rattle.dma_engine.specs.{inner.Found.front_in, inner.Holds.view_of, inner.Inside.parts_of, View.object_of}
+use Rattle.dma_engine.specs.{inner.Found.front_in, inner.Inside.parts_of, inner.Holds.state_in}
 use Rattle.dma_engine.proofs.Queues.{HoldsAt, holds_at, many_queues}
 use Rattle.dma_engine.proofs.{Boards.queue_small, Conflicts.few_issued, Conflicts.front_found, Sizes.many_channels, engine.Engine.front.Goals.After-index-queue}
 use Rattle.dma_engine.proofs.engine.Engine.front.Goals as goal
@@ -30,7 +30,7 @@ overflow_add-cookie c = omega (arith, queue_small (read (goal.at.overflow_add-co
 pub returns-in_default : goal.returns-in_default
 returns-in_default c =
     let p = parts_of c.self.inside in
-    let s = channel (object_of (view_of p)) c.args.index in
+    let s = state_in p c.args.index in
     let listed : None ≡ front_in c.index-queue.result.now (channel p.base c.args.index).submitted p.history =
     rw (c.kept.ensures, c.deref.ensures.value) at c.in_default.ensures in
     let none : None ≡ issued_front s = listed ∙ front_found (read (goal.at.returns-in_default c).After-index-queue) in
@@ -39,7 +39,7 @@ returns-in_default c =
 pub returns : goal.returns
 returns c =
     let p = parts_of c.self.inside in
-    let s = channel (object_of (view_of p)) c.args.index in
+    let s = state_in p c.args.index in
     let t = c.in-Some.transfer.now in
     let at = read (goal.at.returns c).After-index-queue in
     let listed : Some t ≡ front_in c.index-queue.result.now (channel p.base c.args.index).submitted p.history =

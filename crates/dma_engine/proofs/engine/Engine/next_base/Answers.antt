@@ -1,12 +1,12 @@
 use Rattle.std.proofs.Common.{ap}
-use Rattle.dma_engine.specs.{inner.Holds.view_of, inner.Inside.parts_of, Object.base_from, View.EngineState, View.object_of}
+use Rattle.dma_engine.specs.{inner.Inside.parts_of, Object.base_from, View.EngineState, View.object_of, inner.Holds.object_in}
 use Rattle.dma_engine.proofs.Checkpoint.{image_now}
 use Rattle.dma_engine.proofs.engine.Engine.next_base.Goals as goal
 
 pub returns : goal.returns
 returns c =
     let p = parts_of c.self.inside in
-    let o = object_of (view_of p) in
+    let o = object_in p in
     let none = rw (← c.self.view_is) at c.requires in
     let channels = rw (← c.self.view_is) at c.in_ok-channels.ensures in
     rw (

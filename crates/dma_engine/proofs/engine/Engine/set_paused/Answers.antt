@@ -1,9 +1,9 @@
 use Rattle.std.proofs.Common.{ap, arith, refl}
 use Rattle.std.specs.Prelude.{if◌then◌else◌}
 use Rattle.dma_mem.specs.declared.call.Call.TheVariants.{Pause, Resume}
-use Rattle.dma_engine.specs.{declared.call.Reply.TheVariants.Done, inner.Holds.view_of, inner.Inside.parts_of, View.EngineState, View.object_of}
+use Rattle.dma_engine.specs.{declared.call.Reply.TheVariants.Done, inner.Holds.view_of, inner.Inside.parts_of, View.object_of}
 use Rattle.dma_engine.proofs.{CallCases.paused_done, CallCases.paused_gone, CallCases.refusal, QueueCalls.holds_paused, QueueCalls.view_paused, Queues.HoldsAt}
-use Rattle.dma_engine.proofs.{Queues.holds_at, Queues.queue_there, Rooms.keeps_room, engine.Engine.set_paused.Goals.After-index_mut-queue}
+use Rattle.dma_engine.proofs.{Queues.queue_there, Rooms.keeps_room, engine.Engine.set_paused.Goals.After-index_mut-queue, Queues.seen, Queues.holds_there}
 use Rattle.dma_engine.proofs.engine.Engine.set_paused.Goals as goal
 
 pub returns-in_err-index-clause-answer : goal.returns-in_err-index-clause-answer
@@ -14,11 +14,7 @@ returns-in_err-index-clause-answer c =
 
 -- the queue that is read
 read : (c : After-index_mut-queue) → HoldsAt (parts_of c.self.inside) c.in_ok-index.index c.index_mut-queue.result.now
-read c =
-    let p = parts_of c.self.inside in
-    holds_at p c.self.invariant c.in_ok-index.index c.index_mut-queue.result.now
-    (queue_there p c.args.self.now.view c.args.ch c.in_ok-index.index c.self.invariant (ap (λ (s : EngineState). s.view) c.self.view_is)
-    c.in_ok-index.ensures.there) c.index_mut-queue.ensures.value
+read c = holds_there c.self.invariant (seen c.self.view_is) c.in_ok-index.ensures.there c.index_mut-queue.ensures.value
 
 pub invariant_of-self : goal.invariant_of-self
 invariant_of-self c =
@@ -41,10 +37,4 @@ returns-clause-kept c =
     (ap object_of (view_paused at q.indices.spare q.outcomes.spare c.args.paused)) (omega arith) refl (omega arith) (omega arith))
 
 pub index_mut-queue-requires : goal.index_mut-queue-requires
-index_mut-queue-requires c =
-    omega (
-      arith,
-      queue_there (parts_of c.self.inside) c.args.self.now.view c.args.ch c.in_ok-index.index c.self.invariant
-          (ap (λ (s : EngineState). s.view) c.self.view_is) c.in_ok-index.ensures.there,
-      c.self.inside.queues.ok.0,
-    )
+index_mut-queue-requires c = omega (arith, queue_there c.self.invariant (seen c.self.view_is) c.in_ok-index.ensures.there, c.self.inside.queues.ok.0)

@@ -1,8 +1,8 @@
 use Rattle.std.proofs.Common.{◌≡◌, ap, length, arith, refl, None}
 use Rattle.dma_engine.specs.{declared.entry.Entry.TheVariants.Submitted, Answer.submit_fault, inner.Holds.queue_submitted, inner.Holds.view_of}
-use Rattle.dma_engine.specs.{inner.Inside.parts_of, View.EngineState, View.channels}
+use Rattle.dma_engine.specs.{inner.Inside.parts_of, View.channels}
 use Rattle.dma_engine.proofs.CallCases.{checked_cookie, checked_none, submit_done, submit_open}
-use Rattle.dma_engine.proofs.Queues.{HoldsAt, holds_at, many_queues}
+use Rattle.dma_engine.proofs.Queues.{HoldsAt, holds_at, many_queues, seen}
 use Rattle.dma_engine.proofs.{QueueCalls.holds_submitted, QueueCalls.view_entered, engine.Engine.submit_here.Goals.After-index_mut-queue}
 use Rattle.dma_engine.proofs.engine.Engine.submit_here.Goals as goal
 
@@ -43,6 +43,6 @@ pub index_mut-queue-requires : goal.index_mut-queue-requires
 index_mut-queue-requires c =
     let p = parts_of c.self.inside in
     let v = c.args.self.now.view in
-    let is : view_of p ≡ v = ap (λ (s : EngineState). s.view) c.self.view_is in
+    let is : view_of p ≡ v = seen c.self.view_is in
     let free = submit_open v c.args.ch c.args.transfer (checked_none (submit_fault v c.args.ch c.args.transfer) _ c.args.cookie c.requires.checked) in
     omega (arith, many_queues p c.self.invariant, ap channels is, free.0, c.from.ensures, c.self.inside.queues.ok.0)

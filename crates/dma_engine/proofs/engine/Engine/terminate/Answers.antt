@@ -1,22 +1,16 @@
-use Rattle.std.proofs.Common.{◌≡◌, ◌∙◌, ap, arith, refl}
-use Rattle.std.proofs.{lemmas.Grind.common_steps, lemmas.List.set-get_or}
-use Rattle.std.specs.Prelude.{slice_set}
+use Rattle.std.proofs.Common.{arith, refl}
+use Rattle.std.proofs.{lemmas.Grind.common_steps}
 use Rattle.dma_mem.specs.declared.call.Call.TheVariants.{Terminate}
-use Rattle.dma_engine.specs.{declared.call.Reply.TheVariants.Count, declared.entry.Entry.TheVariants.Terminated}
-use Rattle.dma_engine.specs.{declared.fault.EngineFault.TheVariants.NoMemory, inner.Holds.view_of, inner.Inside.parts_of, Object.channel, Object.unfinished}
-use Rattle.dma_engine.specs.{Answer.done_on, Answer.terminated, View.EngineState, View.object_of}
-use Rattle.dma_engine.proofs.CallCases.{refusal, starved, terminate_answer, terminate_done}
-use Rattle.dma_engine.proofs.{StartsAndEnds.holds_terminated, StartsAndEnds.view_terminated, Queues.HoldsAt, Queues.holds_at, Queues.queue_there}
-use Rattle.dma_engine.proofs.{Rooms.unfinished_found, Sizes.many_channels, engine.Engine.terminate.Goals.After-index_mut-queue}
+use Rattle.dma_engine.specs.{declared.call.Reply.TheVariants.Count}
+use Rattle.dma_engine.specs.{declared.fault.EngineFault.TheVariants.NoMemory, inner.Holds.view_of, inner.Inside.parts_of}
+use Rattle.dma_engine.proofs.CallCases.{refusal, terminate_done, terminate_starved}
+use Rattle.dma_engine.proofs.{StartsAndEnds.holds_terminated, StartsAndEnds.view_terminated, Queues.HoldsAt, Queues.queue_there, Queues.seen, Queues.queue_back}
+use Rattle.dma_engine.proofs.{Rooms.unfinished_found, Sizes.many_channels, engine.Engine.terminate.Goals.After-index_mut-queue, Queues.holds_there}
 use Rattle.dma_engine.proofs.engine.Engine.terminate.Goals as goal
 
 -- the queue that is read
 read : (c : After-index_mut-queue) → HoldsAt (parts_of c.self.inside) c.in_ok-index.index c.index_mut-queue.result.now
-read c =
-    let p = parts_of c.self.inside in
-    holds_at p c.self.invariant c.in_ok-index.index c.index_mut-queue.result.now
-    (queue_there p c.args.self.now.view c.args.ch c.in_ok-index.index c.self.invariant (ap (λ (s : EngineState). s.view) c.self.view_is)
-    c.in_ok-index.ensures.there) c.index_mut-queue.ensures.value
+read c = holds_there c.self.invariant (seen c.self.view_is) c.in_ok-index.ensures.there c.index_mut-queue.ensures.value
 
 pub kept-requires : goal.kept-requires
 kept-requires c =
@@ -65,16 +59,10 @@ returns-clause-answer c =
       ← c.in_ok-index.ensures.there.0,
     )
     (terminate_done (view_of p) _ i _ at.there refl
-    (view_terminated p i c.terminate.new.self.outcomes.spare c.index_mut-queue.result.now _ c.index_mut-queue.result.now.given))
+    (view_terminated at c.terminate.new.self.outcomes.spare _ c.index_mut-queue.result.now.given))
 
 pub index_mut-queue-requires : goal.index_mut-queue-requires
-index_mut-queue-requires c =
-    omega (
-      arith,
-      queue_there (parts_of c.self.inside) c.args.self.now.view c.args.ch c.in_ok-index.index c.self.invariant
-          (ap (λ (s : EngineState). s.view) c.self.view_is) c.in_ok-index.ensures.there,
-      c.self.inside.queues.ok.0,
-    )
+index_mut-queue-requires c = omega (arith, queue_there c.self.invariant (seen c.self.view_is) c.in_ok-index.ensures.there, c.self.inside.queues.ok.0)
 
 pub push_reserved-requires : goal.push_reserved-requires
 push_reserved-requires c = omega (arith, c.in_ok-reserve.ensures.ok)
@@ -85,12 +73,10 @@ invariant_of-self c = rw c.reserve.ensures.items c.self.invariant
 pub returns-in_err-reserve-clause-answer : goal.returns-in_err-reserve-clause-answer
 returns-in_err-reserve-clause-answer c =
     let v = view_of (parts_of c.self.inside) in
-    let ch = c.args.ch in
     let there = rw (← c.self.view_is) at c.in_ok-index.ensures.there in
-    let count = unfinished (channel (object_of v) ch) in
     rw (← c.self.view_is, c.reserve.ensures.items)
-    (refusal (λ n. Count n) v v (Terminate ch) NoMemory c.from_residual-in_err-reserve.result c.from_residual-in_err-reserve.ensures.1
-    (starved v (Terminate ch) (Count count) (terminated v ch) (Terminated ch (done_on v ch) count) (terminate_answer v ch there.1) refl))
+    (refusal (λ n. Count n) v v (Terminate c.args.ch) NoMemory c.from_residual-in_err-reserve.result c.from_residual-in_err-reserve.ensures.1
+    (terminate_starved v c.args.ch there.1))
 
 pub returns-in_err-reserve-clause-room : goal.returns-in_err-reserve-clause-room
 returns-in_err-reserve-clause-room c = rw (← c.self.view_is) (λ room. absurd (omega (arith, room.entry, c.in_err-reserve.ensures.full)))
@@ -99,16 +85,11 @@ pub returns-in_err-terminate-clause-answer : goal.returns-in_err-terminate-claus
 returns-in_err-terminate-clause-answer c =
     let p = parts_of c.self.inside in
     let v = view_of p in
-    let ch = c.args.ch in
-    let i = c.in_ok-index.index in
-    let q = c.index_mut-queue.result.now in
     let there = rw (← c.self.view_is) at c.in_ok-index.ensures.there in
-    let count = unfinished (channel (object_of v) ch) in
-    let same : slice_set p.queues i c.terminate.new.self ≡ p.queues =
-    ap (slice_set p.queues i) (c.in_err-terminate.ensures.refused ∙ c.index_mut-queue.ensures.value) ∙ set-get_or p.queues i q in
+    let same = queue_back p.queues c.in_ok-index.index c.in_err-terminate.ensures.refused c.index_mut-queue.ensures.value in
     rw (same, c.reserve.ensures.items, ← c.self.view_is)
-    (refusal (λ n. Count n) v v (Terminate ch) NoMemory c.from_residual-in_err-terminate.result c.from_residual-in_err-terminate.ensures.1
-    (starved v (Terminate ch) (Count count) (terminated v ch) (Terminated ch (done_on v ch) count) (terminate_answer v ch there.1) refl))
+    (refusal (λ n. Count n) v v (Terminate c.args.ch) NoMemory c.from_residual-in_err-terminate.result c.from_residual-in_err-terminate.ensures.1
+    (terminate_starved v c.args.ch there.1))
 
 pub returns-clause-room : goal.returns-clause-room
 returns-clause-room c = λ _. tt

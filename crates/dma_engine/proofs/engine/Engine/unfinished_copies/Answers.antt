@@ -1,7 +1,7 @@
 use Rattle.std.proofs.Common.{◌≡◌, ◌-◌, ◌+◌, ◌<◌, ◌∙◌, ap, sym, arith, length, take, drop, ◌++◌, ◌∷◌, []}
 use Rattle.std.specs.Prelude.{slice_index_or}
 use Rattle.std.proofs.lemmas.List.{take_more, get_or-drop, length-drop}
-use Rattle.dma_engine.specs.{inner.Holds.view_of, inner.Inside.parts_of, Object.channel, Object.no_transfer, View.object_of}
+use Rattle.dma_engine.specs.{inner.Inside.parts_of, Object.no_transfer, inner.Holds.state_in}
 use Rattle.dma_engine.proofs.Queues.{holds_at, many_queues}
 use Rattle.dma_engine.proofs.engine.Engine.unfinished_copies.Goals as goal
 
@@ -10,7 +10,7 @@ loop-n-preserved c =
     let p = parts_of c.self.inside in
     let n = c.loop-n.n in
     let first = length c.outcomes-first.result.now in
-    let ts = (channel (object_of (view_of p)) c.args.index).submitted in
+    let ts = (state_in p c.args.index).submitted in
     let less : c.args.index < length p.queues = omega (arith, (rw (← c.self.view_is) at c.requires), many_queues p c.self.invariant) in
     let at = holds_at p c.self.invariant c.args.index c.index-queue.result.now less c.index-queue.ensures in
     let so_far = rw (← c.self.view_is) at c.loop-n.invariant in

@@ -59,8 +59,7 @@ lowest_read-requires-clause-ranges c =
     (ap some_meet (sym c.deref.ensures.value) ∙ sym c.in_default-lowest_twice.ensures.meets))
 
 pub lowest_read-requires-clause-some : goal.lowest_read-requires-clause-some
-lowest_read-requires-clause-some c =
-    rw c.deref-then-any_reads.ensures.value (rw (← c.deref-2.ensures.value) (sym c.if-any_reads.ensures))
+lowest_read-requires-clause-some c = rw c.deref-then-any_reads.ensures.value (rw (← c.deref-2.ensures.value) (sym c.if-any_reads.ensures))
 
 pub returns-then-any_reads-clause-addr : goal.returns-then-any_reads-clause-addr
 returns-then-any_reads-clause-addr c =

@@ -1,5 +1,5 @@
 use Rattle.std.proofs.Common.{◌+◌, length, refl, arith}
-use Rattle.std.proofs.{lemmas.Bool.lt-ltb, lemmas.Bool.le-ltb, lemmas.Bool.ltb-true, lemmas.Grind.common_steps}
+use Rattle.std.proofs.{lemmas.Bool.lt-ltb, lemmas.Bool.le-ltb, lemmas.Bool.ltb-true}
 use Rattle.dma_mem.proofs.PageImages.{size_seen}
 use Rattle.dma_mem.proofs.memory.Memory.prepare.Goals as goal
 
@@ -38,6 +38,3 @@ pub returns-clause-refused : goal.returns-clause-refused
 returns-clause-refused c = λ past.
     let long = size_seen c.self.inside.size c.self.inside.table c.self.inside.flags c.args.self.now c.self.view_is in
     absurd (omega (arith, long, c.if-segment-self.false, ltb-true (length c.args.self.now.image) (c.args.segment.addr + c.args.segment.len) past))
-
-pub returns-then-made-clause-ok : goal.returns-then-made-clause-ok
-returns-then-made-clause-ok c = grind (arith, common_steps)

@@ -1,5 +1,4 @@
 use Rattle.std.proofs.Common.{◌≡◌, ◌-◌, List, ℕ, length, take, drop, refl, arith, get_or, ap, ◌∙◌}
-use Rattle.std.proofs.lemmas.Grind.{common_steps}
 use Rattle.dma_mem.specs.{Regions.pieces_of, Regions.image_of, inner.Rewritten.Holds, Image.put, Image.bytes_at}
 use Rattle.dma_mem.proofs.{Pieces.no_region, PieceWrites.rewritten_at, PieceWrites.region_shown, PieceWrites.ends_in}
 use Rattle.dma_mem.proofs.regions.copies.copy_in_region.Goals as goal
@@ -17,9 +16,3 @@ returns c =
     record { first = c.requires.writes.first; last = omega (arith, c.requires.writes.last, long) } in
     rewritten_at rs i c.args.to _ bytes c.requires.order c.requires.index holds refl refl refl
     (c.copy_bytes_apart.ensures ∙ ap (λ (xs : List ℕ). put r.bytes.now (bytes_at (c.args.to - r.addr) xs)) shown)
-
-pub copy_bytes_apart-requires-clause-within : goal.copy_bytes_apart-requires-clause-within
-copy_bytes_apart-requires-clause-within c = grind (arith, common_steps)
-
-pub copy_bytes_apart-requires-clause-source : goal.copy_bytes_apart-requires-clause-source
-copy_bytes_apart-requires-clause-source c = grind (arith, common_steps)

@@ -1,6 +1,5 @@
 use Rattle.std.proofs.Common.{◌≡◌, ◌∙◌, ap, arith, drop, length, take}
 use Rattle.std.specs.{Prelude.vec_capacity, Vec.with_items}
-use Rattle.std.proofs.lemmas.Grind.{common_steps}
 use Rattle.dma_mem.specs.Image.{put, bytes_at}
 use Rattle.dma_mem.proofs.BlankChunks.{HasPut, has_put, length_with_zeros}
 use Rattle.dma_mem.proofs.table.Chunk.copy_apart.Goals as goal
@@ -37,6 +36,3 @@ pub returns-clause-bytes : goal.returns-clause-bytes
 returns-clause-bytes c = (written c).shows
     ∙ ap (λ xs. put c.args.self.now (bytes_at c.args.to (take c.args.len (drop c.args.from xs))))
     (c.deref_mut.ensures.value ∙ c.add_zeros.ensures.bytes ∙ c.self.view_is)
-
-pub returns-clause-len : goal.returns-clause-len
-returns-clause-len c = grind (arith, common_steps)

@@ -1,6 +1,5 @@
 use Rattle.std.proofs.Common.{◌≡◌, ap, arith, length}
 use Rattle.std.specs.{Prelude.vec_capacity, Vec.with_items}
-use Rattle.std.proofs.lemmas.Grind.{common_steps}
 use Rattle.dma_mem.specs.Image.{bytes_at}
 use Rattle.dma_mem.proofs.BlankChunks.{HasPut, has_put, length_with_zeros}
 use Rattle.dma_mem.proofs.table.Chunk.put.Goals as goal
@@ -26,6 +25,3 @@ returns-clause-whole c = (written c).all
 
 pub returns-clause-bytes : goal.returns-clause-bytes
 returns-clause-bytes c = (written c).shows
-
-pub returns-clause-len : goal.returns-clause-len
-returns-clause-len c = grind (arith, common_steps)

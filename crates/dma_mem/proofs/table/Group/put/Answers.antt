@@ -1,5 +1,5 @@
 use Rattle.std.proofs.Common.{◌≡◌, ◌+◌, ◌<◌, ◌≤◌, [], length, get_or, ap, ◌∙◌, arith}
-use Rattle.std.proofs.{lemmas.List.get_or_default, lemmas.List.get_or-set_same, lemmas.Grind.common_steps}
+use Rattle.std.proofs.{lemmas.List.get_or_default, lemmas.List.get_or-set_same}
 use Rattle.dma_mem.specs.{Image.put, Image.bytes_at, inner.ChunkTable.chunk_at}
 use Rattle.dma_mem.proofs.ChunkTables.{within_chunks, laid_put}
 use Rattle.dma_mem.proofs.table.Group.put.Goals as goal
@@ -28,6 +28,3 @@ returns-clause-len c =
     let is : c.index_mut-chunk.result.now ≡ chunk_at c.args.self.now i = c.index_mut-chunk.ensures.value
     ∙ get_or_default chunks i c.index_mut-chunk.result.now [] h ∙ ap (λ xs. chunk_at xs i) v in
     ap length (get_or-set_same chunks i c.put.new.self [] h) ∙ c.put.ensures.len ∙ ap length is
-
-pub put-requires-clause-made : goal.put-requires-clause-made
-put-requires-clause-made c = grind (arith, common_steps)

@@ -4,8 +4,7 @@ use Rattle.dma_text.proofs.Begun.{begins_appended, begins_more}
 use Rattle.dma_trace.proofs.explain.HappeningsText.push.Goals as goal
 
 pub returns-in_err-push_event-clause-begins : goal.returns-in_err-push_event-clause-begins
-returns-in_err-push_event-clause-begins c =
-    begins_more _ _ _ (begins_appended _ _ _ c.loop-happening.invariant.text) c.push_event.ensures.begins
+returns-in_err-push_event-clause-begins c = begins_more _ _ _ (begins_appended _ _ _ c.loop-happening.invariant.text) c.push_event.ensures.begins
 
 pub loop-happening-init : goal.loop-happening-init
 loop-happening-init c = grind (arith, common_steps)
@@ -13,8 +12,5 @@ loop-happening-init c = grind (arith, common_steps)
 pub loop-happening-preserved : goal.loop-happening-preserved
 loop-happening-preserved c = grind (arith, common_steps)
 
-pub returns-clause-ok : goal.returns-clause-ok
-returns-clause-ok c = grind (arith, common_steps)
-
-pub returns-clause-begins : goal.returns-clause-begins
-returns-clause-begins c = grind (arith, common_steps)
+pub returns : goal.returns
+returns c = grind (arith, common_steps)

@@ -26,8 +26,7 @@ loop-done-preserved c =
     }
 
 pub returns-in_err-push-clause-begins : goal.returns-in_err-push-clause-begins
-returns-in_err-push-clause-begins c =
-    begins_more _ _ _ c.loop-done.invariant.begins (begins_same _ _ c.in_err-push.ensures.items)
+returns-in_err-push-clause-begins c = begins_more _ _ _ c.loop-done.invariant.begins (begins_same _ _ c.in_err-push.ensures.items)
 
 -- no bit is left
 none_left : (mid all : List ℕ) (left n : ℕ) → left ≡ 0 → mid ++ bits_text left n ≡ all → mid ≡ all

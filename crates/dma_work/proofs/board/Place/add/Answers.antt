@@ -25,8 +25,7 @@ compare_exchange_with-requires c =
     c.word_of-word.ensures c.changed_word-new.ensures in (
       c.load-before.ensures.0 ∙ at,
       omega (arith, many, c.word_of-word.ensures),
-      adds_kept _ _ _ i _ _ m t (ap (λ x. x.writes) (was.writer c.requires) ∙ c.requires) (omega (arith, c.word_of-word.ensures))
-          (λ less. omega (arith, channel, c.word_of-word.ensures, less)) (λ past. omega (arith, channel, c.word_of-word.ensures, past)) was.read.word new,
+      adds_kept _ _ _ i _ _ m t (ap (λ x. x.writes) (was.writer c.requires) ∙ c.requires) (omega (arith, channel, c.word_of-word.ensures)) was.read.word new,
     )
 
 pub returns-clause-sight : goal.returns-clause-sight

@@ -3,5 +3,4 @@ use Rattle.dma_work.proofs.desk.Desk.checkpoint.Goals as goal
 
 pub invariant_of-self-2 : goal.invariant_of-self-2
 invariant_of-self-2 g c =
-    kept_checkpoint _ _ _ c.self.inside.engine c.checkpoint.new.self c.self.inside.publisher c.begin_again.new.self _ c.facts.ensures.sound
-    c.in_ok-checkpoint.ensures.answer c.begin_again.ensures c.self.invariant
+    kept_checkpoint c.self.invariant c.checkpoint.new.self c.begin_again.new.self c.facts.ensures.sound c.in_ok-checkpoint.ensures.answer c.begin_again.ensures

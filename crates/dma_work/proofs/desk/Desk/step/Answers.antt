@@ -4,19 +4,17 @@ use Rattle.dma_work.proofs.desk.Desk.step.Goals as goal
 
 pub count-requires-clause-steps : goal.count-requires-clause-steps
 count-requires-clause-steps g c =
-    let k = kept_step g.N.DeskName.opening g.N.DeskName.base g.N.DeskName.table c.self.inside.engine c.step-answer.new.engine c.self.inside.publisher
-    c.step-answer.new.self c.self.inside.book c.args.ch c.step-answer.result c.step-answer.ensures.answer c.step-answer.ensures.published
-    c.self.invariant in
+    let k = kept_step c.self.invariant c.step-answer.new.engine c.step-answer.new.self c.args.ch c.step-answer.result c.step-answer.ensures.answer
+    c.step-answer.ensures.published in
     omega (arith, k.counts.steps, c.facts.ensures.steps)
 
 pub count-requires-clause-finished : goal.count-requires-clause-finished
 count-requires-clause-finished g c =
-    let k = kept_step g.N.DeskName.opening g.N.DeskName.base g.N.DeskName.table c.self.inside.engine c.step-answer.new.engine c.self.inside.publisher
-    c.step-answer.new.self c.self.inside.book c.args.ch c.step-answer.result c.step-answer.ensures.answer c.step-answer.ensures.published
-    c.self.invariant in
+    let k = kept_step c.self.invariant c.step-answer.new.engine c.step-answer.new.self c.args.ch c.step-answer.result c.step-answer.ensures.answer
+    c.step-answer.ensures.published in
     omega (arith, k.counts.finished, c.facts.ensures.finished)
 
 pub invariant_of-self : goal.invariant_of-self
 invariant_of-self g c =
-    rw c.count.ensures (kept_step _ _ _ c.self.inside.engine c.step-answer.new.engine c.self.inside.publisher c.step-answer.new.self c.self.inside.book
-    c.args.ch c.step-answer.result c.step-answer.ensures.answer c.step-answer.ensures.published c.self.invariant)
+    rw c.count.ensures (kept_step c.self.invariant c.step-answer.new.engine c.step-answer.new.self c.args.ch c.step-answer.result c.step-answer.ensures.answer
+    c.step-answer.ensures.published)

@@ -8,8 +8,8 @@ use Rattle.dma_work.proofs.desk.Desk.submit.Goals as goal
 
 pub invariant_of-self : goal.invariant_of-self
 invariant_of-self g c =
-    kept_still _ _ _ c.self.inside.engine c.submit.new.self _ _
-    (submit_still c.self.inside.engine.view c.submit.new.self.view c.args.ch c.args.transfer _ c.in_err-cookie.ensures.answer) c.self.invariant
+    kept_still c.self.invariant c.submit.new.self
+    (submit_still c.self.inside.engine.view c.submit.new.self.view c.args.ch c.args.transfer _ c.in_err-cookie.ensures.answer)
 
 pub publish-requires : goal.publish-requires
 publish-requires g c =
@@ -28,8 +28,8 @@ kept g c =
     let h = c.in_ok-cookie.ensures.answer in
     let s = submits_add v w ch c.in_ok-cookie.cookie c.args.transfer h in
     let base = (answers_extend v w (Submit ch c.args.transfer) (Cookie c.in_ok-cookie.cookie) refl h).0 in
-    kept_next _ _ _ c.self.inside.engine c.submit.new.self c.self.inside.publisher c.list.new.self c.self.inside.book c.self.inside.book c.new.result
-    (Submitted ch) 0 0 s.0 base c.new.ensures (c.list.ensures.same ∙ c.publish.ensures) (omega arith) (omega arith) c.self.invariant
+    kept_next c.self.invariant c.submit.new.self c.list.new.self c.self.inside.book c.new.result (Submitted ch) 0 0 s.0 base c.new.ensures
+    (c.list.ensures.same ∙ c.publish.ensures) (omega arith) (omega arith)
 
 listed : (g : Over) (c : goal.After-new-ticket g) → c.new-ticket.result ≡ c.list.new.self.shown.ticks
 listed g c =
@@ -38,8 +38,8 @@ listed g c =
 pub invariant_of-result : goal.invariant_of-result
 invariant_of-result g c =
     record {
-      used = given_in _ _ _ c.submit.new.self c.list.new.self _ c.self.inside.engine.view c.args.ch c.in_ok-cookie.cookie c.args.transfer c.new-ticket.result
-          c.in_ok-cookie.ensures.answer c.facts.ensures.sound (kept g c) (listed g c);
+      used = given_in (kept g c) c.self.inside.engine.view c.args.ch c.in_ok-cookie.cookie c.args.transfer c.new-ticket.result c.in_ok-cookie.ensures.answer
+          c.facts.ensures.sound (listed g c);
     }
 
 pub invariant_of-self-2 : goal.invariant_of-self-2

@@ -31,8 +31,8 @@ kept g c =
     let s = terminates_add v w ch count h in
     let base = (answers_extend v w (Terminate ch) (Count count) refl h).0 in
     let book : Totals = record (c.self.inside.book) { terminated = c.self.inside.book.terminated + c.from.result } in
-    kept_next _ _ _ c.self.inside.engine c.terminate.new.self c.self.inside.publisher c.list.new.self c.self.inside.book book c.new.result (Finished ch count) 0
-    count s.0 base c.new.ensures (c.list.ensures.same ∙ c.publish.ensures) (omega arith) (omega (arith, c.from.ensures)) c.self.invariant
+    kept_next c.self.invariant c.terminate.new.self c.list.new.self book c.new.result (Finished ch count) 0 count s.0 base c.new.ensures
+    (c.list.ensures.same ∙ c.publish.ensures) (omega arith) (omega (arith, c.from.ensures))
 
 listed : (g : Over) (c : goal.After-used-through g) → c.new-ticket.result ≡ c.list.new.self.shown.ticks
 listed g c =
@@ -41,8 +41,8 @@ listed g c =
 pub invariant_of-result : goal.invariant_of-result
 invariant_of-result g c =
     record {
-      finished = finished_in _ _ _ c.terminate.new.self c.list.new.self _ c.self.inside.engine.view c.args.ch c.in_ok-count.count c.used-through.result
-          c.new-ticket.result c.in_ok-count.ensures.answer c.facts.ensures.sound (kept g c) (listed g c) c.used-through.ensures;
+      finished = finished_in (kept g c) c.self.inside.engine.view c.args.ch c.in_ok-count.count c.used-through.result c.new-ticket.result
+          c.in_ok-count.ensures.answer c.facts.ensures.sound (listed g c) c.used-through.ensures;
     }
 
 pub invariant_of-self-2 : goal.invariant_of-self-2

@@ -3,5 +3,4 @@ use Rattle.dma_work.proofs.Desks.{kept_quiet}
 use Rattle.dma_work.proofs.desk.Desk.unmark.Goals as goal
 
 pub invariant_of-self : goal.invariant_of-self
-invariant_of-self g c =
-    kept_quiet _ _ _ c.self.inside.engine c.unmark.new.self _ _ Unmark _ tt c.unmark.ensures.answer c.self.invariant
+invariant_of-self g c = kept_quiet c.self.invariant c.unmark.new.self Unmark _ tt c.unmark.ensures.answer

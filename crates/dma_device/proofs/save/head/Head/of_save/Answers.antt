@@ -8,9 +8,6 @@ use Rattle.dma_device.proofs.save.head.Head.of_save.Goals as goal
 pub returns-then-bytes-lt-HEAD_LEN-clause-only : goal.returns-then-bytes-lt-HEAD_LEN-clause-only
 returns-then-bytes-lt-HEAD_LEN-clause-only c h rest ranges known version config e = grind (arith, common_steps, head_length, length-append)
 
-pub returns-then-not-has_known_events-clause-only : goal.returns-then-not-has_known_events-clause-only
-returns-then-not-has_known_events-clause-only c h rest ranges known version config e = grind (arith, common_steps)
-
 pub returns-else-eq-clause-only : goal.returns-else-eq-clause-only
 returns-else-eq-clause-only c h rest ranges known version config e =
     let head : c.read-head.result ≡ h = c.read-head.ensures.same h rest ranges version config e in

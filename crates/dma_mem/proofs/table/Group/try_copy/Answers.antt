@@ -1,9 +1,0 @@
-use Rattle.std.proofs.Common.{arith}
-use Rattle.std.proofs.lemmas.Grind.{common_steps}
-use Rattle.dma_mem.proofs.table.Group.try_copy.Goals as goal
-
-pub loop-chunk-preserved : goal.loop-chunk-preserved
-loop-chunk-preserved c = grind (arith, common_steps)
-
-pub returns : goal.returns
-returns c = grind (arith, common_steps)
