@@ -1,4 +1,4 @@
-"""What dma330.h declares, as two tables. `embed/declarations` writes this file: change the header, not the file.
+"""What dma330.h declares, as three tables. `embed/declarations` writes this file: change the header, not the file.
 
 A type is `u8`, `u32`, `u64`, `i32` or `size` for a number, the name of a struct, or one of these, `char` or `void`
 after a `*`, for a pointer.
@@ -94,4 +94,14 @@ i32 plan *segment size *segment size i32 i32 u32 *u8 size *size
 i32 plan_fill u32 *segment size i32 i32 u32 *u8 size *size
 i32 assemble *char size *u8 size *size *size
 i32 disassemble *u8 size *char size *size *size
+"""
+
+# Each code that a call may return.
+CODES_TABLE = """
+OK=0 NOT_OPEN=-1 ALREADY_OPEN=-2 NO_MEMORY=-3 BAD_EVENT=-4 BAD_KIND=-5 NO_RESULT=-6 NOT_RUNNING=-7 BUFFER_TOO_SMALL=-8
+NO_PROGRAM=-9 OUT_OF_MEMORY_RANGE=-10 BUSY=-11 NO_CHANNEL=-12 COOKIES_SPENT=-13 STEPS_SPENT=-14 BAD_RANGE=-15
+RUNNING=-16 BAD_CHANNELS=-20 SIZE_OUT_OF_RANGE=-21 BAD_REGIONS=-22 BAD_CONFIG=-23 EMPTY_LIST=-30 TOO_MANY_SEGMENTS=-31
+EMPTY_SEGMENT=-32 SEGMENT_WRAPS=-33 TOTALS_DIFFER=-34 TOO_LONG=-35 DESTINATIONS_MEET=-36 SOURCE_MEETS_DESTINATION=-37
+PROGRAM_TOO_LONG=-40 BAD_SAVE=-42 OTHER_DEVICE=-43 BAD_MNEMONIC=-50 BAD_OPERAND=-51 NUMBER_OUT_OF_RANGE=-52
+CUT_INSTRUCTION=-60 UNKNOWN_INSTRUCTION=-61 BAD_FIELD=-62 UNEXPLAINED=-70
 """

@@ -9,6 +9,7 @@ from __future__ import annotations
 import re
 from typing import Dict, Tuple, Type
 
+from ._declared import CODES_TABLE
 from .values import Cause
 
 __all__ = ["Error", "NotOpen", "AlreadyOpen", "NoMemory", "BadEvent", "BadKind", "NoResult", "NotRunning",
@@ -18,20 +19,24 @@ __all__ = ["Error", "NotOpen", "AlreadyOpen", "NoMemory", "BadEvent", "BadKind",
            "SourceMeetsDestination", "ProgramTooLong", "BadSave", "OtherDevice", "BadMnemonic", "BadOperand",
            "NumberOutOfRange", "CutInstruction", "UnknownInstruction", "BadField", "Unexplained"]
 
+CODES = {name: int(code) for name, code in (it.split("=") for it in CODES_TABLE.split())}
+
 
 class Error(Exception):
-    """A call was refused. `code` is the library's number, `name` its name in dma330.h, as "BUSY"."""
+    """A call was refused. `name` is the code's name in dma330.h, as "BUSY", and `code` its number."""
+    name = "OK"
     code = 0
     about: Tuple[str, ...] = ()
+
+    def __init_subclass__(cls) -> None:
+        super().__init_subclass__()
+        cls.name = re.sub("(?<=[a-z])(?=[A-Z])", "_", cls.__name__).upper()
+        cls.code = CODES.get(cls.name, cls.code)
 
     def __init__(self, *about: object) -> None:
         super().__init__(*about)
         for name, value in zip(self.about, about):
             setattr(self, name, value)
-
-    @property
-    def name(self) -> str:
-        return re.sub("(?<=[a-z])(?=[A-Z])", "_", type(self).__name__).upper()
 
     def __str__(self) -> str:
         return ", ".join([self.name, *("%s %s" % (it, getattr(value, "name", value))
@@ -40,197 +45,169 @@ class Error(Exception):
 
 class NotOpen(Error, RuntimeError):
     """The controller, channel or device is closed."""
-    code = -1
 
 
 class AlreadyOpen(Error, RuntimeError):
     """It is open already."""
-    code = -2
 
 
 class NoMemory(Error, MemoryError):
     """Out of memory: an allocation of the library failed."""
-    code = -3
 
 
 class BadEvent(Error, ValueError):
     """An event is above 31."""
-    code = -4
 
 
 class BadKind(Error, ValueError):
     """A kind of mark is neither 0 nor 1."""
-    code = -5
 
 
 class NoResult(Error, LookupError):
     """The cookie hasn't finished, was never given, or its result is forgotten."""
-    code = -6
 
 
 class NotRunning(Error, LookupError):
     """Nothing runs on the channel, or there is no such channel."""
-    code = -7
 
 
 class BufferTooSmall(Error, RuntimeError):
     """The output has more bytes than there is room. The module makes room, so no call raises it."""
-    code = -8
 
 
 class NoProgram(Error, RuntimeError):
     """The channel has no program."""
-    code = -9
 
 
 class OutOfMemoryRange(Error, ValueError):
     """A range or a segment ends above the memory's size."""
-    code = -10
 
 
 class Busy(Error, RuntimeError):
     """A running transfer conflicts: `cookie` on `channel`, of several the one on the lowest channel."""
-    code, about = -11, ("channel", "cookie")
+    about = ("channel", "cookie")
     channel: int
     cookie: int
 
 
 class NoChannel(Error, ValueError):
     """The channel's number isn't below the number of channels."""
-    code = -12
 
 
 class CookiesSpent(Error, RuntimeError):
     """The channel has used cookie 2147483647."""
-    code = -13
 
 
 class StepsSpent(Error, RuntimeError):
     """An instruction is due, and the step count is 2^64 - 1."""
-    code = -14
 
 
 class BadRange(Error, ValueError):
     """A range to be marked is empty, or ends above 2^32."""
-    code = -15
 
 
 class Running(Error, RuntimeError):
     """A checkpoint, and a transfer runs: `cookie` on `channel`."""
-    code, about = -16, ("channel", "cookie")
+    about = ("channel", "cookie")
     channel: int
     cookie: int
 
 
 class BadChannels(Error, ValueError):
     """The number of channels isn't 1 to 8."""
-    code = -20
 
 
 class SizeOutOfRange(Error, ValueError):
     """The size of a memory isn't 1 to 4294963200."""
-    code = -21
 
 
 class BadRegions(Error, ValueError):
     """More than 64 regions, or two share an address, or one ends above 2^32."""
-    code = -22
 
 
 class BadConfig(Error, ValueError):
     """No device can have this configuration, or this bus, or no channel on the bus this CCR."""
-    code = -23
 
 
 class EmptyList(Error, ValueError):
     """A list has no segment."""
-    code = -30
 
 
 class TooManySegments(Error, ValueError):
     """A list has more than 64 segments."""
-    code = -31
 
 
 class EmptySegment(Error, ValueError):
     """A segment has length 0."""
-    code = -32
 
 
 class SegmentWraps(Error, ValueError):
     """A segment ends above 2^32."""
-    code = -33
 
 
 class TotalsDiffer(Error, ValueError):
     """The lists have different numbers of bytes."""
-    code = -34
 
 
 class TooLong(Error, ValueError):
     """A list has more than 1048576 bytes."""
-    code = -35
 
 
 class DestinationsMeet(Error, ValueError):
     """Two destination segments share an address."""
-    code = -36
 
 
 class SourceMeetsDestination(Error, ValueError):
     """A source and a destination segment share an address."""
-    code = -37
 
 
 class ProgramTooLong(Error, ValueError):
     """A program has more than 8192 bytes. Of `assemble`, `place` is the line with which it does, else 0."""
-    code, about = -40, ("place",)
+    about = ("place",)
     place = 0
 
 
 class BadSave(Error, ValueError):
     """The bytes are no save of a channel in this version, or of any device."""
-    code = -42
 
 
 class OtherDevice(Error, ValueError):
     """The save is of a device of another version or configuration."""
-    code = -43
 
 
 class BadMnemonic(Error, ValueError):
     """Assembly: no instruction has this name. `place` is the line, from 1."""
-    code, about = -50, ("place",)
+    about = ("place",)
     place: int
 
 
 class BadOperand(Error, ValueError):
     """Assembly: an operand is missing, of a wrong form, or one too many. `place` is the line."""
-    code, about = -51, ("place",)
+    about = ("place",)
     place: int
 
 
 class NumberOutOfRange(Error, ValueError):
     """Assembly: a number is outside its range. `place` is the line."""
-    code, about = -52, ("place",)
+    about = ("place",)
     place: int
 
 
 class CutInstruction(Error, ValueError):
     """Disassembly: the bytes end within an instruction, which begins at offset `place`."""
-    code, about = -60, ("place",)
+    about = ("place",)
     place: int
 
 
 class UnknownInstruction(Error, ValueError):
     """Disassembly: no instruction begins with the byte at offset `place`."""
-    code, about = -61, ("place",)
+    about = ("place",)
     place: int
 
 
 class BadField(Error, ValueError):
     """Disassembly: a field of the instruction at offset `place` is outside its range."""
-    code, about = -62, ("place",)
+    about = ("place",)
     place: int
 
 
@@ -238,7 +215,7 @@ class Unexplained(Error, ValueError):
     """A program isn't explained, for `cause`, a `Cause`. `pc` is the offset of the instruction that has it (0 for
     STORES_ZEROS), `steps` how many are executed before it. `addr` is the lowest address that is stored twice, for
     STORES_TWICE, or read and stored, for STORES_SOURCE, if `explain_work` was called; else it is 0."""
-    code, about = -70, ("cause", "pc", "steps", "addr")
+    about = ("cause", "pc", "steps", "addr")
     cause: Cause
     pc: int
     steps: int
