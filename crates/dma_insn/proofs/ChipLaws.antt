@@ -20,16 +20,7 @@ use Rattle.dma_insn.proofs.Laws.{decoded_spelling as core_decoded_spelling, deco
 
 widened_both : (i : Insn) → (spelling (widened i) ≡ core_spelling i) × (CoreRanges i → HasRanges (widened i))
 widened_both CoreEnd = (refl, λ h. h)
-widened_both CoreLd = (refl, λ h. h)
-widened_both CoreSt = (refl, λ h. h)
-widened_both CoreRmb = (refl, λ h. h)
-widened_both CoreWmb = (refl, λ h. h)
-widened_both CoreNop = (refl, λ h. h)
-widened_both (CoreLp c n) = (refl, λ h. h)
-widened_both (CoreLpEnd c b) = (refl, λ h. h)
-widened_both (CoreSev e) = (refl, λ h. h)
-widened_both (CoreWfe e v) = (refl, λ h. h)
-widened_both (CoreMov r v) = (refl, λ h. h)
+widened_both _ = (refl, λ h. h)
 
 pub widened_spelling : (i : Insn) → spelling (widened i) ≡ core_spelling i
 widened_spelling i = (widened_both i).0
@@ -50,12 +41,6 @@ added_again a h n b rest low =
 
 -- in the grammar of the model
 pub decoded_core_spelling : (i : ChipInsn) (rest : List ℕ) → HasCoreRanges i → decoded_core (spelling i ++ rest) ≡ Ok (i, length (spelling i))
-decoded_core_spelling End rest h = refl
-decoded_core_spelling Ld rest h = refl
-decoded_core_spelling St rest h = refl
-decoded_core_spelling Rmb rest h = refl
-decoded_core_spelling Wmb rest h = refl
-decoded_core_spelling Nop rest h = refl
 decoded_core_spelling (Lp c n) rest h = ap widely (core_decoded_spelling (CoreLp c n) rest h)
 decoded_core_spelling (LpEnd c b) rest h = ap widely (core_decoded_spelling (CoreLpEnd c b) rest h)
 decoded_core_spelling (Sev e) rest h = ap widely (core_decoded_spelling (CoreSev e) rest h)
@@ -64,6 +49,7 @@ decoded_core_spelling (Mov r v) rest h = ap widely (core_decoded_spelling (CoreM
 decoded_core_spelling StoreZeros rest h = absurd h
 decoded_core_spelling (AddHalfword a m n) rest h = absurd h
 decoded_core_spelling (LoopAgain c b) rest h = absurd h
+decoded_core_spelling _ rest h = refl
 
 -- what the grammar of the model has, that of a chip has
 pub core_in_chip : (bytes : List ℕ) (x : ChipInsn × ℕ) → decoded_core bytes ≡ Ok x → decoded bytes ≡ Ok x

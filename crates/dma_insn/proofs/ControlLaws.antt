@@ -11,17 +11,11 @@ use Rattle.dma_insn.specs.{declared.control.ControlFault.ControlFault}
 
 pub size_of_size_code : (s : BeatSize) → size_of (size_code s) ≡ Some s
 size_of_size_code One = refl
-size_of_size_code Two = refl
-size_of_size_code Four = refl
-size_of_size_code Eight = refl
-size_of_size_code Sixteen = refl
+size_of_size_code _ = refl
 
 pub size_code_le : (s : BeatSize) → size_code s ≤ 4
 size_code_le One = omega arith
-size_code_le Two = omega arith
-size_code_le Four = omega arith
-size_code_le Eight = omega arith
-size_code_le Sixteen = omega arith
+size_code_le _ = omega arith
 
 -- one test of the chain of size codes
 by_code : (n c : ℕ) (s t : BeatSize) (rest : Option BeatSize) (b : Bool) → eqb n c ≡ b → size_code t ≡ c → (rest ≡ Some s → size_code s ≡ n)
@@ -45,9 +39,8 @@ pub record IsEnd (k w : ℕ) (e : BurstEnd) : Type 0 where
   pub cache : e.cache ≡ field (k + 11) 3 w
 
 bit_flag : (n : ℕ) → n < 2 → flag (eqb n 1) ≡ n
-bit_flag zero h = refl
-bit_flag (suc zero) h = refl
 bit_flag (suc (suc n)) h = absurd (omega arith)
+bit_flag _ h = refl
 
 flag_bit : (b : Bool) (n : ℕ) → flag b ≡ n → eqb n 1 ≡ b
 flag_bit true n e = rw (← e) refl
@@ -86,14 +79,12 @@ ok_tests : (w : ℕ) (s d : BurstEnd) (c : Control) (t u : Bool) → eqb (field 
 ok_tests w s d c true true a b h =
     let same : record { src = s; dst = d } ≡ c = cc in
     (ap (λ (k : Control). Some k.src) same, ap (λ (k : Control). Some k.dst) same, eqb-true _ 0 a, eqb-true _ 0 b)
-ok_tests w s d c true false a b h = absurd (cc)
-ok_tests w s d c false u a b h = absurd (cc)
+ok_tests w s d c _ _ a b h = absurd (cc)
 
 -- A word that is not refused has these fields.
 ok_ends : (w : ℕ) (a b : Option BurstEnd) (c : Control) → with_ends w a b ≡ Ok c → (a ≡ Some c.src) × (b ≡ Some c.dst) × (field 28 3 w ≡ 0) × (field 31 1 w ≡ 0)
-ok_ends w None b c h = absurd (cc)
-ok_ends w (Some s) None c h = absurd (cc)
 ok_ends w (Some s) (Some d) c h = ok_tests w s d c (eqb (field 28 3 w) 0) (eqb (field 31 1 w) 0) refl refl h
+ok_ends w _ _ c h = absurd (cc)
 
 pub control_of_fields : (w : ℕ) (c : Control) → control_of w ≡ Ok c → HasFields w c
 unfolding control_of

@@ -47,24 +47,28 @@ front_offset : (offset : ℕ) (is : List Insn) (i : Insn) (n : ℕ) → offset �
     → offset + n ≡ length (joined (is ++ i ∷ []))
 front_offset offset is i n e c = rw (joined_push is i) (omega (arith, length-append (joined is) (spelling i)))
 
-pub front_more : (bytes : List ℕ) (offset : ℕ) (i : Insn) (n : ℕ) → Front bytes offset → IsSpelledAt (drop offset bytes) i n → Front bytes (offset + n)
-front_more bytes offset i n f h = record {
-  insns = f.insns ++ i ∷ [];
-  in_range = all_push f.insns i f.in_range h.in_range;
-  bytes_are = front_bytes bytes offset f.insns i n f.bytes_are h;
-  offset_is = front_offset offset f.insns i n f.offset_is h.count_is;
-}
+-- one more instruction, at the front of a slice from the place on
+pub front_step : (bytes : List ℕ) (offset : ℕ) (i : Insn) (n : ℕ) → Front bytes offset → IsSpelledAt (take (length bytes - offset) (drop offset bytes)) i n
+    → Front bytes (offset + n)
+front_step bytes offset i n f at =
+    let h = subst (λ (l : List ℕ). IsSpelledAt l i n) (take_rest bytes offset) at in
+    record {
+      insns = f.insns ++ i ∷ [];
+      in_range = all_push f.insns i f.in_range h.in_range;
+      bytes_are = front_bytes bytes offset f.insns i n f.bytes_are h;
+      offset_is = front_offset offset f.insns i n f.offset_is h.count_is;
+    }
 
 pub front_all : (bytes : List ℕ) (offset : ℕ) → length bytes ≤ offset → Front bytes offset → AreSpelled bytes
 front_all bytes offset all f =
     let none : drop offset bytes ≡ [] = drop_all offset bytes all in
     record { insns = f.insns; in_range = f.in_range; bytes_are = f.bytes_are ∙ ap (λ (l : List ℕ). joined f.insns ++ l) none ∙ append-nil (joined f.insns) }
 
-pub written_more : (bytes text new : List ℕ) (offset : ℕ) (i : Insn) (n : ℕ) → WrittenFront bytes offset text → IsSpelledAt (drop offset bytes) i n
-    → new ≡ text ++ (insn_text i ++ 10 ∷ []) → WrittenFront bytes (offset + n) new
-unfolding front_more
-written_more bytes text new offset i n f h e = record {
-  front = front_more bytes offset i n f.front h;
+pub written_step : (bytes text new : List ℕ) (offset : ℕ) (i : Insn) (n : ℕ) → WrittenFront bytes offset text
+    → IsSpelledAt (take (length bytes - offset) (drop offset bytes)) i n → new ≡ text ++ (insn_text i ++ 10 ∷ []) → WrittenFront bytes (offset + n) new
+unfolding front_step
+written_step bytes text new offset i n f h e = record {
+  front = front_step bytes offset i n f.front h;
   text_is = e ∙ ap (λ (l : List ℕ). l ++ (insn_text i ++ 10 ∷ [])) f.text_is ∙ sym (text_push f.front.insns i);
 }
 
@@ -73,15 +77,6 @@ unfolding front_all
 written_all bytes text offset all f =
     let spelled = front_all bytes offset all f.front in
     disassembles bytes text spelled.insns spelled.in_range spelled.bytes_are f.text_is
-
--- the same of a slice from the place on
-pub front_step : (bytes : List ℕ) (offset : ℕ) (i : Insn) (n : ℕ) → Front bytes offset → IsSpelledAt (take (length bytes - offset) (drop offset bytes)) i n
-    → Front bytes (offset + n)
-front_step bytes offset i n f h = front_more bytes offset i n f (subst (λ (l : List ℕ). IsSpelledAt l i n) (take_rest bytes offset) h)
-
-pub written_step : (bytes text new : List ℕ) (offset : ℕ) (i : Insn) (n : ℕ) → WrittenFront bytes offset text
-    → IsSpelledAt (take (length bytes - offset) (drop offset bytes)) i n → new ≡ text ++ (insn_text i ++ 10 ∷ []) → WrittenFront bytes (offset + n) new
-written_step bytes text new offset i n f h e = written_more bytes text new offset i n f (subst (λ (l : List ℕ). IsSpelledAt l i n) (take_rest bytes offset) h) e
 
 spelled_front : (i : Insn) (rest more : List ℕ) → HasRanges i → rest ≡ spelling i ++ more → IsSpelledAt rest i (length (spelling i))
 spelled_front i rest more h e =

@@ -59,9 +59,7 @@ module _ {I : Type 0} {Ranges : I → Type 0} {spelling : I → List ℕ} {decod
         let same : spelling i ++ [] ≡ first ∷ (begins.tail ++ []) = ap (λ (bytes : List ℕ). bytes ++ []) begins.bytes_are in
         cc,
   )
-  refused (first ∷ rest) Cut h = h
-  refused (first ∷ rest) BadField h = h
-  refused [] fault h = h
+  refused _ fault h = h
 
   pub right_err : (bytes : List ℕ) (r : Found I) → Right bytes r → IfErr r (λ fault. Refused Ranges spelling bytes fault)
   right_err bytes (Ok x) h = tt
@@ -120,11 +118,8 @@ module _ {I J : Type 0} {Ranges : I → Type 0} {spelling : I → List ℕ} {Wid
       → (bytes : List ℕ) (r : Found I) → IsBytes bytes → Right decodes bytes r → Right wides bytes (or_more into more bytes r)
   more_right decodes wides more beyond bytes (Ok x) h right = wide_at bytes x.0 x.1 right
   more_right decodes wides more beyond [] (Err Cut) h right = tt
-  more_right decodes wides more beyond [] (Err (Unknown c)) h right = absurd right
-  more_right decodes wides more beyond [] (Err BadField) h right = absurd right
-  more_right decodes wides more beyond (b ∷ rest) (Err Cut) h right =
-      (into right.0, wide_begins right.0 b right.1, omega (arith, right.2, ap length (extends.same right.0)))
-  more_right decodes wides more beyond (b ∷ rest) (Err BadField) h right =
-      (into right.0, wide_begins right.0 b right.1, omega (arith, right.2, ap length (extends.same right.0)))
+  more_right decodes wides more beyond [] (Err _) h right = absurd right
   more_right decodes wides more beyond (b ∷ rest) (Err (Unknown c)) h right =
       subst (λ (k : ℕ). Right wides (b ∷ rest) (more k (b ∷ rest))) (sym right.0) (beyond b rest (λ i. h (suc i)) right.1)
+  more_right decodes wides more beyond (b ∷ rest) (Err _) h right =
+      (into right.0, wide_begins right.0 b right.1, omega (arith, right.2, ap length (extends.same right.0)))

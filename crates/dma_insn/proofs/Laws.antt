@@ -36,19 +36,13 @@ set_again r v rest h =
 
 -- an encoded instruction is decoded, whatever follows
 pub decoded_spelling : (i : Insn) (rest : List ℕ) → HasRanges i → decoded (spelling i ++ rest) ≡ Ok (i, length (spelling i))
-decoded_spelling End rest h = refl
-decoded_spelling Ld rest h = refl
-decoded_spelling St rest h = refl
-decoded_spelling Rmb rest h = refl
-decoded_spelling Wmb rest h = refl
-decoded_spelling Nop rest h = refl
 decoded_spelling (Lp Lc0 n) rest h = let e : n - 1 + 1 ≡ n = omega (arith, h.0) in ap (λ (m : ℕ). Ok (Lp Lc0 m, 2)) e
 decoded_spelling (Lp Lc1 n) rest h = let e : n - 1 + 1 ≡ n = omega (arith, h.0) in ap (λ (m : ℕ). Ok (Lp Lc1 m, 2)) e
-decoded_spelling (LpEnd Lc0 b) rest h = refl
-decoded_spelling (LpEnd Lc1 b) rest h = refl
 decoded_spelling (Sev e) rest h = signal_again e
 decoded_spelling (Wfe e v) rest h = wait_again e v
 decoded_spelling (Mov r v) rest h = set_again r v rest h
+decoded_spelling (LpEnd Lc0 b) rest h = refl
+decoded_spelling _ rest h = refl
 
 pub decodes : Decodes HasRanges spelling decoded
 decodes = record { again = decoded_spelling; none = refl }
@@ -110,10 +104,6 @@ wait_right (b ∷ rest) h =
 
 -- The bytes of the number that four bytes read as, the lowest first, are those bytes again.
 pub little_bytes_little_number : (bytes : List ℕ) → IsBytes bytes → 4 ≤ length bytes → little_bytes 4 (little_number 4 bytes) ≡ take 4 bytes
-little_bytes_little_number [] h n = absurd (omega arith)
-little_bytes_little_number (b ∷ []) h n = absurd (omega arith)
-little_bytes_little_number (b ∷ c ∷ []) h n = absurd (omega arith)
-little_bytes_little_number (b ∷ c ∷ d ∷ []) h n = absurd (omega arith)
 little_bytes_little_number (b ∷ c ∷ d ∷ e ∷ rest) h n =
     let v = little_number 4 (b ∷ c ∷ d ∷ e ∷ rest) in
     let bounds : (b < 256) × (c < 256) × (d < 256) × (e < 256) = (h 0, h 1, h 2, h 3) in
@@ -122,6 +112,7 @@ little_bytes_little_number (b ∷ c ∷ d ∷ e ∷ rest) h n =
     let e2 : d ≡ v / 65536 % 256 = omega (arith, bounds) in
     let e3 : e ≡ v / 16777216 % 256 = omega (arith, bounds) in
     cc (e0, e1, e2, e3)
+little_bytes_little_number _ h n = absurd (omega arith)
 
 set_cut : (rest : List ℕ) → length rest < 5 → IsRefusedFor (0xbc ∷ rest) Cut
 set_cut rest h = cut decodes (Mov Sar 0) 0xbc rest (0 ∷ little_bytes 4 0) (omega arith) refl (omega arith)

@@ -38,64 +38,47 @@ event_capped k = same_capped event_at (λ j h. rw (lt-leb j 31 (omega arith)) re
 -- the ranges tested one after another, and as a statement has them
 loop_ranges : (g : Counter → ℕ → Insn) (o : Option Counter) (t : Bool) (m : ℕ)
     → (ok_or o Range >>= λ c. (cond t (Ok m) (Err Range) >>= λ k. Ok (g c k))) ≡ ok_or (option_and_then (λ c. cond t (Some (g c m)) None) o) Range
-loop_ranges g None t m = refl
 loop_ranges g (Some c) true m = refl
-loop_ranges g (Some c) false m = refl
+loop_ranges g _ t m = refl
 
 event_range : (g : ℕ → Insn) (t : Bool) (e : ℕ) → (cond t (Ok e) (Err Range) >>= λ k. Ok (g k)) ≡ ok_or (cond t (Some (g e)) None) Range
 event_range g true e = refl
 event_range g false e = refl
 
-loop_numbers : (c m : ℕ) → (counter_at (capped c) >>= λ k. (times_at (capped m) >>= λ t. Ok (Lp k t))) ≡ ok_or (insn_of (dmalp c m)) Range
-loop_numbers c m = rw (counter_capped c, times_capped m) (loop_ranges (λ k l. Lp k l) (counter_of c) (leb 1 m && leb m 256) m)
-
-loop_end_numbers : (c m : ℕ) → (counter_at (capped c) >>= λ k. (back_at (capped m) >>= λ t. Ok (LpEnd k t))) ≡ ok_or (insn_of (dmalpend c m)) Range
-loop_end_numbers c m = rw (counter_capped c, back_capped m) (loop_ranges (λ k l. LpEnd k l) (counter_of c) (leb m 255) m)
-
-signal_number : (e : ℕ) → (event_at (capped e) >>= λ k. Ok (Sev k)) ≡ ok_or (insn_of (dmasev e)) Range
-signal_number e = rw (event_capped e) (event_range (λ k. Sev k) (leb e 31) e)
-
-wait_number : (e : ℕ) (v : Bool) → (event_at (capped e) >>= λ k. Ok (Wfe k v)) ≡ ok_or (insn_of (dmawfe e v)) Range
-wait_number e v = rw (event_capped e) (event_range (λ k. Wfe k v) (leb e 31) e)
-
 register_of_word : (r : Reg) → register_of (register_word r) ≡ Some r
 register_of_word Sar = refl
-register_of_word Ccr = refl
-register_of_word Dar = refl
+register_of_word _ = refl
 
 -- What the words of a statement are read as: its instruction, or Range.
 loop_read : (a b : List ℕ) (c m : ℕ) → IsDecimal a c → IsDecimal b m → loop_line (a ∷ b ∷ []) ≡ ok_or (insn_of (dmalp c m)) Range
-loop_read a b c m ha hb = rw (number_of_decimal a c ha, number_of_decimal b m hb) (loop_numbers c m)
+loop_read a b c m ha hb =
+    rw (number_of_decimal a c ha, number_of_decimal b m hb, counter_capped c, times_capped m) (loop_ranges (λ k l. Lp k l) (counter_of c) (leb 1 m && leb m 256) m)
 
 loop_end_read : (a b : List ℕ) (c m : ℕ) → IsDecimal a c → IsDecimal b m → loop_end_line (a ∷ b ∷ []) ≡ ok_or (insn_of (dmalpend c m)) Range
-loop_end_read a b c m ha hb = rw (number_of_decimal a c ha, number_of_decimal b m hb) (loop_end_numbers c m)
+loop_end_read a b c m ha hb =
+    rw (number_of_decimal a c ha, number_of_decimal b m hb, counter_capped c, back_capped m) (loop_ranges (λ k l. LpEnd k l) (counter_of c) (leb m 255) m)
 
 signal_read : (a : List ℕ) (e : ℕ) → IsDecimal a e → signal_line (a ∷ []) ≡ ok_or (insn_of (dmasev e)) Range
-signal_read a e h = rw (number_of_decimal a e h) (signal_number e)
+signal_read a e h = rw (number_of_decimal a e h, event_capped e) (event_range (λ k. Sev k) (leb e 31) e)
 
 wait_read : (a : List ℕ) (e : ℕ) → IsDecimal a e → wait_line (a ∷ []) ≡ ok_or (insn_of (dmawfe e false)) Range
-wait_read a e h = rw (number_of_decimal a e h) (wait_number e false)
+wait_read a e h = rw (number_of_decimal a e h, event_capped e) (event_range (λ k. Wfe k false) (leb e 31) e)
 
 wait_invalid_read : (a : List ℕ) (e : ℕ) → IsDecimal a e → wait_line (a ∷ codes "invalid" ∷ []) ≡ ok_or (insn_of (dmawfe e true)) Range
-wait_invalid_read a e h = rw (number_of_decimal a e h) (wait_number e true)
+wait_invalid_read a e h = rw (number_of_decimal a e h, event_capped e) (event_range (λ k. Wfe k true) (leb e 31) e)
 
 set_read : (r : Reg) (v : ℕ) → v < 2 ^ 32 → set_line (register_word r ∷ value_word v ∷ []) ≡ ok_or (insn_of (dmamov r v)) Range
 set_read r v small = rw (register_of_word r, value_of_word v small) refl
 
 pub line_in_written : (words : List (List ℕ)) (s : Statement) → IsWritten words s → line_in words ≡ ok_or (insn_of s) Range
 unfolding line_in
-line_in_written words dmaend h = rw h refl
-line_in_written words dmald h = rw h refl
-line_in_written words dmast h = rw h refl
-line_in_written words dmarmb h = rw h refl
-line_in_written words dmawmb h = rw h refl
-line_in_written words dmanop h = rw h refl
 line_in_written words (dmalp c m) h = ap line_in h.words_are ∙ loop_read h.first h.second c m h.first_number h.second_number
 line_in_written words (dmalpend c b) h = ap line_in h.words_are ∙ loop_end_read h.first h.second c b h.first_number h.second_number
 line_in_written words (dmasev e) h = ap line_in h.words_are ∙ signal_read h.word e h.number
 line_in_written words (dmawfe e false) h = ap line_in h.words_are ∙ wait_read h.word e h.number
 line_in_written words (dmawfe e true) h = ap line_in h.words_are ∙ wait_invalid_read h.word e h.number
 line_in_written words (dmamov r v) h = ap line_in h.words_are ∙ set_read r v h.in_range
+line_in_written words _ h = rw h refl
 
 -- What the result of reading a line's words says about them.
 abbrev pub IsReported : List (List ℕ) → Result Insn AsmCause → Type 0
@@ -132,10 +115,8 @@ module _ (name : List ℕ) (f : ℕ × ℕ → Result Insn AsmCause) (s : ℕ �
       reported_written (name ∷ a ∷ b ∷ []) (s m.number n.number) _ (written _ m.number n.number words) (read a b m.number n.number m.is_decimal n.is_decimal)
 
   two_reported : (words : List (List ℕ)) → IsReported (name ∷ words) (two_numbers words >>= f)
-  two_reported [] = known
-  two_reported (a ∷ []) = known
   two_reported (a ∷ b ∷ []) = two_reported_by a b (number_of a) (number_of b) refl refl
-  two_reported (a ∷ b ∷ c ∷ rest) = known
+  two_reported _ = known
 
 -- and one number
 number_reported : (words : List (List ℕ)) (a : List ℕ) (s : ℕ → Statement) (f : ℕ → Result Insn AsmCause) (x : Option ℕ) → number_of a ≡ x
@@ -148,11 +129,10 @@ number_reported words a s f (Some k) p known written read =
     reported_written words (s n.number) _ (written n.number n.is_decimal) (read n.number n.is_decimal)
 
 signal_reported : (words : List (List ℕ)) → IsReported (codes "DMASEV" ∷ words) (signal_line words)
-signal_reported [] = refl
 signal_reported (a ∷ []) =
     number_reported (codes "DMASEV" ∷ a ∷ []) a (λ e. dmasev e) (λ k. event_at k >>= λ e. Ok (Sev e)) (number_of a) refl refl
     (λ n h. record { word = a; words_are = refl; number = h }) (signal_read a)
-signal_reported (a ∷ b ∷ rest) = refl
+signal_reported _ = refl
 
 wait_two_reported : (a b : List ℕ) (t : Bool) → bytes_eq b (codes "invalid") ≡ t → IsReported (codes "DMAWFE" ∷ a ∷ b ∷ []) (wait_line (a ∷ b ∷ []))
 wait_two_reported a b true e =
@@ -163,12 +143,11 @@ wait_two_reported a b true e =
 wait_two_reported a b false e = rw e refl
 
 wait_reported : (words : List (List ℕ)) → IsReported (codes "DMAWFE" ∷ words) (wait_line words)
-wait_reported [] = refl
 wait_reported (a ∷ []) =
     number_reported (codes "DMAWFE" ∷ a ∷ []) a (λ e. dmawfe e false) (λ k. event_at k >>= λ e. Ok (Wfe e false)) (number_of a) refl refl
     (λ n h. record { word = a; words_are = refl; number = h }) (wait_read a)
 wait_reported (a ∷ b ∷ []) = wait_two_reported a b (bytes_eq b (codes "invalid")) refl
-wait_reported (a ∷ b ∷ c ∷ rest) = refl
+wait_reported _ = refl
 
 -- a word that is read as a register is the register's
 register_is : (word : List ℕ) (r : Reg) (x y z : Bool) → bytes_eq word (codes "SAR") ≡ x → bytes_eq word (codes "CCR") ≡ y → bytes_eq word (codes "DAR") ≡ z
@@ -189,10 +168,8 @@ set_reported_by a b (Some r) (Some v) p q =
     reported_written (codes "DMAMOV" ∷ a ∷ b ∷ []) (dmamov r v) _ (record { words_are = words; in_range = g.small }) (rw (p, q) refl)
 
 set_reported : (words : List (List ℕ)) → IsReported (codes "DMAMOV" ∷ words) (set_line words)
-set_reported [] = refl
-set_reported (a ∷ []) = refl
 set_reported (a ∷ b ∷ []) = set_reported_by a b (register_of a) (value_of b) refl refl
-set_reported (a ∷ b ∷ c ∷ rest) = refl
+set_reported _ = refl
 
 -- one test of the chain of names
 name_step : (word : List ℕ) (words : List (List ℕ)) (name : List ℕ) (here rest : Result Insn AsmCause) (b : Bool) → bytes_eq word name ≡ b

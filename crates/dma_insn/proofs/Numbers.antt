@@ -167,30 +167,19 @@ eight_digits a b c d e f g h v read =
 
 -- the same of eight digits
 eight_of : (digits : List ℕ) (v : ℕ) → length digits ≡ 8 → hex_from 0 digits ≡ Some v → IsValueWord (48 ∷ 120 ∷ digits) v
-eight_of [] v n e = absurd (omega arith)
-eight_of (a ∷ []) v n e = absurd (omega arith)
-eight_of (a ∷ b ∷ []) v n e = absurd (omega arith)
-eight_of (a ∷ b ∷ c ∷ []) v n e = absurd (omega arith)
-eight_of (a ∷ b ∷ c ∷ d ∷ []) v n e = absurd (omega arith)
-eight_of (a ∷ b ∷ c ∷ d ∷ g ∷ []) v n e = absurd (omega arith)
-eight_of (a ∷ b ∷ c ∷ d ∷ g ∷ h ∷ []) v n e = absurd (omega arith)
-eight_of (a ∷ b ∷ c ∷ d ∷ g ∷ h ∷ i ∷ []) v n e = absurd (omega arith)
 eight_of (a ∷ b ∷ c ∷ d ∷ g ∷ h ∷ i ∷ j ∷ []) v n e = eight_digits a b c d g h i j v e
-eight_of (a ∷ b ∷ c ∷ d ∷ g ∷ h ∷ i ∷ j ∷ k ∷ rest) v n e = absurd (omega arith)
+eight_of _ v n e = absurd (omega arith)
 
 -- A word that is read as a value is the value's.
 value_of_by : (x y z : Bool) (a b : ℕ) (digits : List ℕ) (v : ℕ) → eqb a 48 ≡ x → eqb b 120 ≡ y → eqb (length digits) 8 ≡ z
     → cond (x && (y && z)) (hex_from 0 digits) None ≡ Some v → IsValueWord (a ∷ b ∷ digits) v
 value_of_by true true true a b digits v x y z e =
     rw (eqb-true a 48 x, eqb-true b 120 y) (eight_of digits v (eqb-true (length digits) 8 z) e)
-value_of_by true true false a b digits v x y z e = absurd (cc)
-value_of_by true false z a b digits v x y zz e = absurd (cc)
-value_of_by false y z a b digits v x yy zz e = absurd (cc)
+value_of_by _ _ _ a b digits v x y z e = absurd (cc)
 
 pub value_of_reads : (word : List ℕ) (v : ℕ) → value_of word ≡ Some v → IsValueWord word v
-value_of_reads [] v e = absurd (cc)
-value_of_reads (a ∷ []) v e = absurd (cc)
 value_of_reads (a ∷ b ∷ digits) v e = value_of_by (eqb a 48) (eqb b 120) (eqb (length digits) 8) a b digits v refl refl refl e
+value_of_reads _ v e = absurd (cc)
 
 -- The word of a value is read as it.
 pub value_of_word : (v : ℕ) → v < 2 ^ 32 → value_of (value_word v) ≡ Some v

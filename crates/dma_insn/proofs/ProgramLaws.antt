@@ -19,9 +19,8 @@ not_operand (Some i) e = cc
 
 -- What the result of reading a line's words says about the line.
 cause_reported : (line : List ℕ) (cause : AsmCause) → line_in (words_of line) ≡ Err cause → IsReported (words_of line) (Err cause) → IsCause line cause
-cause_reported line Mnemonic e reported = reported
 cause_reported line Operand e reported = (reported, λ s written. not_operand (insn_of s) (sym (line_in_written (words_of line) s written) ∙ e))
-cause_reported line Range e reported = reported
+cause_reported line _ e reported = reported
 
 cause_of : (line : List ℕ) (cause : AsmCause) → line_in (words_of line) ≡ Err cause → IsCause line cause
 cause_of line cause e = cause_reported line cause e (subst (IsReported (words_of line)) e (line_in_reported (words_of line)))
@@ -212,16 +211,13 @@ again_before [] after n program is h m at room =
 again_before (line ∷ lines) after n program is h m at room =
     again_by (is_skipped line) line lines after n program is refl h (λ next js written. again_before lines after (n + 1) next js written) m at room
 
-again : (lines : List (List ℕ)) (n : ℕ) (program : List ℕ) (is : List Insn) → WriteAll lines is → length (program ++ joined is) ≤ most_program_bytes
-    → after_lines n program lines ≡ Ok (program ++ joined is)
-again lines n program is h room = ap (after_lines n program) (sym (append-nil lines)) ∙ again_before lines [] n program is h _ refl room
-
 -- A text that assembles is read as its bytes.
 pub assembled_again : (text bytes : List ℕ) → Assembles text bytes → assembled text ≡ Ok bytes
 assembled_again text bytes h =
     let size : length bytes ≡ length (joined h.insns) = ap length h.bytes_are in
     let fits = h.fits in
-    again (text_lines text) 0 [] h.insns h.text_is (omega arith) ∙ ap Ok (sym h.bytes_are)
+    ap (after_lines 0 []) (sym (append-nil (text_lines text))) ∙ again_before (text_lines text) [] 0 [] h.insns h.text_is _ refl (omega arith)
+    ∙ ap Ok (sym h.bytes_are)
 
 -- The outcome of a whole text.
 assembled_ok : (text bytes : List ℕ) → assembled text ≡ Ok bytes → Assembles text bytes
@@ -286,30 +282,23 @@ assembles_once text p q a b = ok_same (assembled text) p q (assembled_again text
 
 -- words of a statement begin with a name
 written_name : (words : List (List ℕ)) (s : Statement) → IsWritten words s → list_any (λ name. bytes_eq (first_of words) name) names ≡ true
-written_name words dmaend h = rw h refl
-written_name words dmald h = rw h refl
-written_name words dmast h = rw h refl
-written_name words dmarmb h = rw h refl
-written_name words dmawmb h = rw h refl
-written_name words dmanop h = rw h refl
 written_name words (dmalp c n) h = rw h.words_are refl
 written_name words (dmalpend c b) h = rw h.words_are refl
 written_name words (dmasev e) h = rw h.words_are refl
 written_name words (dmawfe e false) h = rw h.words_are refl
 written_name words (dmawfe e true) h = rw h.words_are refl
 written_name words (dmamov r v) h = rw h.words_are refl
+written_name words _ h = rw h refl
 
 -- What a line with a cause is read as.
 cause_by : (line : List ℕ) (cause : AsmCause) (r : Result Insn AsmCause) → line_in (words_of line) ≡ r → IsReported (words_of line) r → IsCause line cause
     → r ≡ Err cause
-cause_by line Mnemonic (Ok i) e reported h = absurd (false≢true (sym h ∙ written_name (words_of line) reported.0 reported.1))
 cause_by line Mnemonic (Err Mnemonic) e reported h = refl
 cause_by line Mnemonic (Err Operand) e reported h = absurd (false≢true (sym h ∙ reported))
-cause_by line Mnemonic (Err Range) e reported h = absurd (false≢true (sym h ∙ written_name (words_of line) reported.0 reported.1))
-cause_by line Operand (Ok i) e reported h = absurd (h.1 reported.0 reported.1)
+cause_by line Mnemonic _ e reported h = absurd (false≢true (sym h ∙ written_name (words_of line) reported.0 reported.1))
 cause_by line Operand (Err Mnemonic) e reported h = absurd (false≢true (sym reported ∙ h.0))
 cause_by line Operand (Err Operand) e reported h = refl
-cause_by line Operand (Err Range) e reported h = absurd (h.1 reported.0 reported.1)
+cause_by line Operand _ e reported h = absurd (h.1 reported.0 reported.1)
 cause_by line Range r e reported h = sym e ∙ line_in_written (words_of line) h.0 h.1 ∙ ap (λ (o : Option Insn). ok_or o Range) h.2
 
 cause_read : (line : List ℕ) (cause : AsmCause) → IsCause line cause → line_in (words_of line) ≡ Err cause

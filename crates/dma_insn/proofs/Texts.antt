@@ -1,8 +1,12 @@
 -- The text that instructions are written as is the text of these instructions.
 use Rattle.std.proofs.Common.{◌≡◌, ℕ, ◌+◌, ◌/◌, ◌%◌, ◌^◌, ◌<◌, ◌≤◌, Bool, true, false, List, [], ◌∷◌, ◌++◌, map, length, get_or, refl, sym, ap, ◌∙◌, subst}
-use Rattle.std.proofs.Common.{Some, ltb, arith, append_assoc, append-nil, inl, inr}
+use Rattle.std.proofs.Common.{Some, ltb, eqb, arith, append_assoc, append-nil, inl, inr}
 use Rattle.std.specs.{Prelude.codes, Prelude.decimal, Prelude.flat_map, List.list_all, List.list_any, List.onto_first, Str.all_ascii_digits}
 use Rattle.std.specs.{Str.Parse.digits_value, Fmt.digit_glyph}
+use Rattle.std.specs.List.{All}
+use Rattle.std.proofs.lemmas.List.Splits.{slice_split_at, slice_split_none}
+use Rattle.std.proofs.lemmas.List.{Elements.All-head, Elements.All-tail, Elements.All-weaker, Sums.AllPass-from_list_all}
+use Rattle.std.proofs.lemmas.List.Folds.{list_all-append}
 use Rattle.std.proofs.lemmas.Bool.{and_parts, and_from, ltb-true, lt-ltb, le-ltb, ne_eqb, le-leb, cases_lt}
 use Rattle.std.proofs.lemmas.Str.Parse.{IsNumeralModel, numerals_by_value, tells_all_ascii_digits}
 use Rattle.std.proofs.lemmas.Fmt.{decimal_by_steps, decimal_nonempty, first_decimal, decimal_digit, digits_decimal, digits_value-decimal}
@@ -10,8 +14,9 @@ use Rattle.dma_insn.specs.declared.insn.Reg.TheVariants.{Sar, Ccr, Dar}
 use Rattle.dma_insn.specs.declared.insn.Insn.TheVariants.{Mov, Ld, St, Rmb, Wmb, Nop, End, Lp, LpEnd, Sev, Wfe}
 use Rattle.dma_insn.specs.AssemblyText.{words_of, is_skipped, IsDecimal, value_word, Statement, dmaend, dmald, dmast, dmarmb, dmawmb, dmanop, dmalp, dmalpend}
 use Rattle.dma_insn.specs.AssemblyText.{dmasev, dmawfe, dmamov, IsWritten, insn_of, Writes, WriteAll, ProgramText, joined, most_program_bytes, Assembles}
-use Rattle.dma_insn.specs.AssemblyText.{HasTwoNumbers}
-use Rattle.dma_insn.specs.Disassembly.{AllInRange, insn_text, text_of, Disassembles, DisassemblyAssembles}
+use Rattle.dma_insn.specs.AssemblyText.{HasTwoNumbers, counter_of, register_word}
+use Rattle.dma_insn.specs.{declared.insn.Reg.Reg, declared.insn.Counter.Counter}
+use Rattle.dma_insn.specs.Disassembly.{counter_number, AllInRange, insn_text, text_of, Disassembles, DisassemblyAssembles}
 use Rattle.dma_insn.specs.{declared.insn.Counter.TheVariants.Lc0, declared.insn.Counter.TheVariants.Lc1, declared.insn.Insn.Insn, Spelling.HasRanges}
 use Rattle.dma_text.specs.{Digits.hex_digits, Lines.text_lines}
 use Rattle.dma_insn.proofs.ProgramLaws.{write_more, assembles_once}
@@ -21,33 +26,25 @@ abbrev above : ℕ → List ℕ → Bool
 above k bytes = list_all (λ b. ltb k b) bytes
 
 above_append : (k : ℕ) (xs ys : List ℕ) → above k xs ≡ true → above k ys ≡ true → above k (xs ++ ys) ≡ true
-above_append k [] ys p q = q
-above_append k (x ∷ xs) ys p q =
-    let t = and_parts (ltb k x) (above k xs) p in
-    and_from (ltb k x) (above k (xs ++ ys)) t.0 (above_append k xs ys t.1 q)
+above_append k xs ys p q = rw (list_all-append (λ b. ltb k b) xs ys, p, q) refl
+
+no_byte : (k : ℕ) (w : List ℕ) → above k w ≡ true → All (λ b. eqb b k ≡ false) w
+no_byte k w h =
+    All-weaker (λ b. ltb k b ≡ true) (λ b. eqb b k ≡ false) (λ b t. let above_b : k < b = ltb-true k b t in ne_eqb b k (λ z. omega arith)) w
+    (AllPass-from_list_all (λ b. ltb k b) w h)
 
 -- a word without spaces is one word
 words_plain : (w : List ℕ) → above 32 w ≡ true → words_of w ≡ w ∷ []
-words_plain [] h = refl
-words_plain (b ∷ w) h =
-    let t = and_parts (ltb 32 b) (above 32 w) h in
-    let above_b : 32 < b = ltb-true 32 b t.0 in
-    rw (ne_eqb b 32 (λ z. omega arith)) (ap (onto_first b) (words_plain w t.1))
+words_plain w h = slice_split_none (λ b. eqb b 32) w (no_byte 32 w h)
 
 words_space : (w rest : List ℕ) → above 32 w ≡ true → words_of (w ++ 32 ∷ rest) ≡ w ∷ words_of rest
-words_space [] rest h = refl
-words_space (b ∷ w) rest h =
-    let t = and_parts (ltb 32 b) (above 32 w) h in
-    let above_b : 32 < b = ltb-true 32 b t.0 in
-    rw (ne_eqb b 32 (λ z. omega arith)) (ap (onto_first b) (words_space w rest t.1))
+words_space w rest h = slice_split_at (λ b. eqb b 32) w 32 rest (no_byte 32 w h) refl
 
 -- a line without a line feed is one line
-lines_feed : (line rest : List ℕ) → above 10 line ≡ true → text_lines (line ++ 10 ∷ rest) ≡ line ∷ text_lines rest
+lines_feed : (line rest : List ℕ) → All (λ b. eqb b 10 ≡ false) line → text_lines (line ++ 10 ∷ rest) ≡ line ∷ text_lines rest
 lines_feed [] rest h = refl
 lines_feed (b ∷ line) rest h =
-    let t = and_parts (ltb 10 b) (above 10 line) h in
-    let above_b : 10 < b = ltb-true 10 b t.0 in
-    rw (ne_eqb b 10 (λ z. omega arith)) (ap (onto_first b) (lines_feed line rest t.1))
+    rw (All-head (λ b. eqb b 10 ≡ false) b line h) (ap (onto_first b) (lines_feed line rest (All-tail (λ b. eqb b 10 ≡ false) b line h)))
 
 -- decimal digits are above
 above_decimal : (k n : ℕ) → k < 48 → n < 2 ^ 64 → above k (decimal n) ≡ true
@@ -124,24 +121,20 @@ value_above v = above_append 10 (value_word v) [] (above_value 10 v (omega arith
 value_words_are : (v : ℕ) → words_of (value_word v ++ []) ≡ value_word v ∷ []
 value_words_are v = ap words_of (append-nil (value_word v)) ∙ words_plain (value_word v) (above_value 32 v (omega arith))
 
+-- a counter is a small number
+pub counter_small : (c : Counter) → counter_number c < 2 ^ 64
+counter_small Lc0 = omega arith
+counter_small Lc1 = omega arith
+
 -- the line of an instruction has no line feed
 insn_text_above : (i : Insn) → HasRanges i → above 10 (insn_text i) ≡ true
-insn_text_above End h = refl
-insn_text_above Ld h = refl
-insn_text_above St h = refl
-insn_text_above Rmb h = refl
-insn_text_above Wmb h = refl
-insn_text_above Nop h = refl
-insn_text_above (Lp Lc0 n) h = two_above 0 n (omega arith) (omega (arith, h.1))
-insn_text_above (Lp Lc1 n) h = two_above 1 n (omega arith) (omega (arith, h.1))
-insn_text_above (LpEnd Lc0 b) h = two_above 0 b (omega arith) (omega arith)
-insn_text_above (LpEnd Lc1 b) h = two_above 1 b (omega arith) (omega arith)
+insn_text_above (Lp c n) h = two_above (counter_number c) n (counter_small c) (omega (arith, h.1))
+insn_text_above (LpEnd c b) h = two_above (counter_number c) b (counter_small c) (omega arith)
 insn_text_above (Sev e) h = one_above e (omega arith)
 insn_text_above (Wfe e false) h = one_above e (omega arith)
 insn_text_above (Wfe e true) h = invalid_above e (omega arith)
-insn_text_above (Mov Sar v) h = value_above v
-insn_text_above (Mov Ccr v) h = value_above v
-insn_text_above (Mov Dar v) h = value_above v
+insn_text_above (Mov r v) h = elim r as (λ q. above 10 (insn_text (Mov q v)) ≡ true) [ Sar ↦ value_above v | Ccr ↦ value_above v | Dar ↦ value_above v ]
+insn_text_above _ h = refl
 
 two_numbers_are : (ws : List (List ℕ)) (name : List ℕ) (m n : ℕ) → m < 2 ^ 64 → n < 2 ^ 64 → ws ≡ name ∷ decimal m ∷ decimal n ∷ [] → HasTwoNumbers ws name m n
 two_numbers_are ws name m n hm hn e =
@@ -150,63 +143,70 @@ two_numbers_are ws name m n hm hn e =
 loop_words : (name : List ℕ) (m n : ℕ) → m < 2 ^ 64 → n < 2 ^ 64 → HasTwoNumbers (name ∷ words_of (decimal m ++ 32 ∷ (decimal n ++ []))) name m n
 loop_words name m n hm hn = two_numbers_are _ name m n hm hn (ap (λ (ws : List (List ℕ)). name ∷ ws) (two_words_are m n hm hn))
 
-bare_writes : (i : Insn) (s : Statement) → is_skipped (insn_text i) ≡ false → IsWritten (words_of (insn_text i)) s → insn_of s ≡ Some i → Writes (insn_text i) i
-bare_writes i s taken words e = record { taken = taken; statement = s; words_are = words; insn_is = e }
+-- the statement of an instruction
+abbrev pub statement_of : Insn → Statement
+statement_of End = dmaend
+statement_of Ld = dmald
+statement_of St = dmast
+statement_of Rmb = dmarmb
+statement_of Wmb = dmawmb
+statement_of Nop = dmanop
+statement_of (Lp c n) = dmalp (counter_number c) n
+statement_of (LpEnd c b) = dmalpend (counter_number c) b
+statement_of (Sev e) = dmasev e
+statement_of (Wfe e v) = dmawfe e v
+statement_of (Mov r v) = dmamov r v
+
+counter_of_number : (c : Counter) → counter_of (counter_number c) ≡ Some c
+counter_of_number Lc0 = refl
+counter_of_number Lc1 = refl
+
+registers_are : (r : Reg) (v : ℕ) → words_of (register_word r ++ (codes " " ++ (value_word v ++ []))) ≡ register_word r ∷ value_word v ∷ []
+registers_are r v = words_space (register_word r) (value_word v ++ []) (elim r as (λ q. above 32 (register_word q) ≡ true) [ Sar ↦ refl | Ccr ↦ refl | Dar ↦ refl ])
+    ∙ ap (λ (ws : List (List ℕ)). register_word r ∷ ws) (value_words_are v)
+
+-- the words of the line are those of the statement
+written : (i : Insn) → HasRanges i → IsWritten (words_of (insn_text i)) (statement_of i)
+written (Lp c n) h = loop_words (codes "DMALP") (counter_number c) n (counter_small c) (omega (arith, h.1))
+written (LpEnd c b) h = loop_words (codes "DMALPEND") (counter_number c) b (counter_small c) (omega arith)
+written (Sev e) h =
+    record { word = decimal e; words_are = ap (λ (ws : List (List ℕ)). codes "DMASEV" ∷ ws) (one_word_is e (omega arith)); number = decimal_is e (omega arith) }
+written (Wfe e false) h =
+    record { word = decimal e; words_are = ap (λ (ws : List (List ℕ)). codes "DMAWFE" ∷ ws) (one_word_is e (omega arith)); number = decimal_is e (omega arith) }
+written (Wfe e true) h =
+    record { word = decimal e; words_are = ap (λ (ws : List (List ℕ)). codes "DMAWFE" ∷ ws) (invalid_words_are e (omega arith)); number = decimal_is e (omega arith) }
+written (Mov r v) h = record { words_are = ap (λ (ws : List (List ℕ)). codes "DMAMOV" ∷ ws) (registers_are r v); in_range = h }
+written _ h = refl
+
+insn_of_statement : (i : Insn) → HasRanges i → insn_of (statement_of i) ≡ Some i
+insn_of_statement (Lp c n) h = rw (counter_of_number c, le-leb 1 n h.0, le-leb n 256 h.1) refl
+insn_of_statement (LpEnd c b) h = rw (counter_of_number c, le-leb b 255 (omega arith)) refl
+insn_of_statement (Sev e) h = rw (le-leb e 31 (omega arith)) refl
+insn_of_statement (Wfe e v) h = rw (le-leb e 31 (omega arith)) refl
+insn_of_statement _ h = refl
+
+not_skipped : (i : Insn) → is_skipped (insn_text i) ≡ false
+not_skipped (Wfe e true) = refl
+not_skipped (Wfe e false) = refl
+not_skipped _ = refl
 
 -- The line of an instruction writes it.
 pub insn_text_writes : (i : Insn) → HasRanges i → Writes (insn_text i) i
-insn_text_writes End h = bare_writes End dmaend refl refl refl
-insn_text_writes Ld h = bare_writes Ld dmald refl refl refl
-insn_text_writes St h = bare_writes St dmast refl refl refl
-insn_text_writes Rmb h = bare_writes Rmb dmarmb refl refl refl
-insn_text_writes Wmb h = bare_writes Wmb dmawmb refl refl refl
-insn_text_writes Nop h = bare_writes Nop dmanop refl refl refl
-insn_text_writes (Lp Lc0 n) h =
-    bare_writes (Lp Lc0 n) (dmalp 0 n) refl (loop_words (codes "DMALP") 0 n (omega arith) (omega (arith, h.1))) (rw (le-leb 1 n h.0, le-leb n 256 h.1) refl)
-insn_text_writes (Lp Lc1 n) h =
-    bare_writes (Lp Lc1 n) (dmalp 1 n) refl (loop_words (codes "DMALP") 1 n (omega arith) (omega (arith, h.1))) (rw (le-leb 1 n h.0, le-leb n 256 h.1) refl)
-insn_text_writes (LpEnd Lc0 b) h =
-    bare_writes (LpEnd Lc0 b) (dmalpend 0 b) refl (loop_words (codes "DMALPEND") 0 b (omega arith) (omega arith)) (rw (le-leb b 255 (omega arith)) refl)
-insn_text_writes (LpEnd Lc1 b) h =
-    bare_writes (LpEnd Lc1 b) (dmalpend 1 b) refl (loop_words (codes "DMALPEND") 1 b (omega arith) (omega arith)) (rw (le-leb b 255 (omega arith)) refl)
-insn_text_writes (Sev e) h =
-    let he : e < 2 ^ 64 = omega arith in
-    bare_writes (Sev e) (dmasev e) refl
-    (record { word = decimal e; words_are = ap (λ (ws : List (List ℕ)). codes "DMASEV" ∷ ws) (one_word_is e he); number = decimal_is e he })
-    (rw (le-leb e 31 (omega arith)) refl)
-insn_text_writes (Wfe e false) h =
-    let he : e < 2 ^ 64 = omega arith in
-    bare_writes (Wfe e false) (dmawfe e false) refl
-    (record { word = decimal e; words_are = ap (λ (ws : List (List ℕ)). codes "DMAWFE" ∷ ws) (one_word_is e he); number = decimal_is e he })
-    (rw (le-leb e 31 (omega arith)) refl)
-insn_text_writes (Wfe e true) h =
-    let he : e < 2 ^ 64 = omega arith in
-    bare_writes (Wfe e true) (dmawfe e true) refl
-    (record { word = decimal e; words_are = ap (λ (ws : List (List ℕ)). codes "DMAWFE" ∷ ws) (invalid_words_are e he); number = decimal_is e he })
-    (rw (le-leb e 31 (omega arith)) refl)
-insn_text_writes (Mov Sar v) h =
-    bare_writes (Mov Sar v) (dmamov Sar v) refl
-    (record { words_are = ap (λ (ws : List (List ℕ)). codes "DMAMOV" ∷ codes "SAR" ∷ ws) (value_words_are v); in_range = h }) refl
-insn_text_writes (Mov Ccr v) h =
-    bare_writes (Mov Ccr v) (dmamov Ccr v) refl
-    (record { words_are = ap (λ (ws : List (List ℕ)). codes "DMAMOV" ∷ codes "CCR" ∷ ws) (value_words_are v); in_range = h }) refl
-insn_text_writes (Mov Dar v) h =
-    bare_writes (Mov Dar v) (dmamov Dar v) refl
-    (record { words_are = ap (λ (ws : List (List ℕ)). codes "DMAMOV" ∷ codes "DAR" ∷ ws) (value_words_are v); in_range = h }) refl
+insn_text_writes i h = record { taken = not_skipped i; statement = statement_of i; words_are = written i h; insn_is = insn_of_statement i h }
 
 -- The text of instructions is that of these instructions.
 text_of_written : (is : List Insn) → AllInRange is → ProgramText (text_of is) is
 text_of_written [] h = refl
 text_of_written (i ∷ is) h =
     let lines : text_lines (text_of (i ∷ is)) ≡ insn_text i ∷ text_lines (text_of is) = ap text_lines (append_assoc (insn_text i) (10 ∷ []) (text_of is))
-    ∙ lines_feed (insn_text i) (text_of is) (insn_text_above i h.0) in
+    ∙ lines_feed (insn_text i) (text_of is) (no_byte 10 (insn_text i) (insn_text_above i h.0)) in
     subst (λ (ls : List (List ℕ)). WriteAll ls (i ∷ is)) (sym lines)
     (write_more (insn_text i) (text_lines (text_of is)) i is (insn_text_writes i h.0) (text_of_written is h.1))
 
 text_of_lines : (is : List Insn) → AllInRange is → text_lines (text_of is) ≡ map insn_text is
 text_of_lines [] h = refl
 text_of_lines (i ∷ is) h =
-    ap text_lines (append_assoc (insn_text i) (10 ∷ []) (text_of is)) ∙ lines_feed (insn_text i) (text_of is) (insn_text_above i h.0)
+    ap text_lines (append_assoc (insn_text i) (10 ∷ []) (text_of is)) ∙ lines_feed (insn_text i) (text_of is) (no_byte 10 (insn_text i) (insn_text_above i h.0))
     ∙ ap (λ (ls : List (List ℕ)). insn_text i ∷ ls) (text_of_lines is h.1)
 
 no_line_skipped : (is : List Insn) → AllInRange is → list_any is_skipped (map insn_text is) ≡ false
@@ -239,8 +239,3 @@ text_assembles bytes text small d = record {
   bytes_are = d.bytes_are;
   fits = small;
 }
-
-pub disassembly_again : DisassemblyAssembles
-disassembly_again bytes text small d =
-    let same = text_assembles bytes text small d in
-    (same, λ others a. assembles_once text others bytes a same)

@@ -60,20 +60,14 @@ spelling (LoopAgain c b) = again_byte c ∷ b ∷ []
 
 -- The ranges of the fields. The type `ChipInsn` guarantees them.
 abbrev pub HasRanges : ChipInsn → Type 0
-HasRanges End = Unit {0}
-HasRanges Ld = Unit {0}
-HasRanges St = Unit {0}
-HasRanges Rmb = Unit {0}
-HasRanges Wmb = Unit {0}
-HasRanges Nop = Unit {0}
 HasRanges (Lp c n) = (1 ≤ n) × (n ≤ 256)
 HasRanges (LpEnd c b) = b < 256
 HasRanges (Sev e) = e < 32
 HasRanges (Wfe e v) = e < 32
 HasRanges (Mov r v) = v < 2 ^ 32
-HasRanges StoreZeros = Unit {0}
 HasRanges (AddHalfword a h n) = h < 2 ^ 16
 HasRanges (LoopAgain c b) = b < 256
+HasRanges _ = Unit {0}
 
 -- an instruction is one of the model's
 abbrev pub IsCore : ChipInsn → Type 0

@@ -85,10 +85,9 @@ end_at k w = option_map (end_with k w) (size_of (field (k + 1) 3 w))
 -- the fields of the word w with these ends, or the first fault: an end with a reserved size, a swap that is not 0, bit
 -- 31
 abbrev pub with_ends : ℕ → Option BurstEnd → Option BurstEnd → Result Control ControlFault
-with_ends w None d = Err ReservedSize
-with_ends w (Some s) None = Err ReservedSize
 with_ends w (Some s) (Some d) =
     if field 28 3 w == 0 then (if field 31 1 w == 0 then Ok (record { src = s; dst = d }) else Err Bit31) else Err Swap
+with_ends w _ _ = Err ReservedSize
 
 -- The fields of a word, or the first fault: a reserved size of either end, a swap that is not 0, bit 31.
 unfoldable pub control_of : ℕ → Result Control ControlFault

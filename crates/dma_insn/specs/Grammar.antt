@@ -20,8 +20,7 @@ pub record Begins {I : Type 0} (Ranges : I → Type 0) (spelling : I → List �
 -- is longer than the bytes. `BadField`: an instruction that begins with the first byte is not longer than the bytes.
 abbrev pub Refused : {I : Type 0} → (I → Type 0) → (I → List ℕ) → List ℕ → DecodeFault → Type 0
 Refused Ranges spelling [] Cut = Unit {0}
-Refused Ranges spelling [] (Unknown b) = ⊥
-Refused Ranges spelling [] BadField = ⊥
+Refused Ranges spelling [] _ = ⊥
 Refused {I = I} Ranges spelling (first ∷ rest) (Unknown b) = (b ≡ first) × ((i : I) → Begins Ranges spelling i first → ⊥)
 Refused {I = I} Ranges spelling (first ∷ rest) Cut =
     (i : I) × Begins Ranges spelling i first × (length (first ∷ rest) < length (spelling i))

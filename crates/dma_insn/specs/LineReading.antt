@@ -29,16 +29,13 @@ no_word (a ∷ rest) = Err Operand
 
 -- the only word; `Operand` if there is not exactly one
 abbrev pub one_word : List (List ℕ) → Result (List ℕ) AsmCause
-one_word [] = Err Operand
 one_word (a ∷ []) = Ok a
-one_word (a ∷ b ∷ rest) = Err Operand
+one_word _ = Err Operand
 
 -- the only two words; `Operand` if there are not exactly two
 abbrev pub two_words : List (List ℕ) → Result (List ℕ × List ℕ) AsmCause
-two_words [] = Err Operand
-two_words (a ∷ []) = Err Operand
 two_words (a ∷ b ∷ []) = Ok (a, b)
-two_words (a ∷ b ∷ c ∷ rest) = Err Operand
+two_words _ = Err Operand
 
 -- the value of a decimal digit
 abbrev pub digit_of : ℕ → Option ℕ
@@ -76,8 +73,7 @@ hex_from value (c ∷ rest) = option_and_then (λ d. hex_from (value * 16 + d) r
 -- the value of a word of 0x and eight hexadecimal digits; `None` for any other word
 abbrev pub value_of : List ℕ → Option ℕ
 value_of (a ∷ b ∷ digits) = if (a == 48) && ((b == 120) && (length digits == 8)) then hex_from 0 digits else None
-value_of (a ∷ []) = None
-value_of [] = None
+value_of _ = None
 
 -- the same, with `Operand` in place of `None`
 abbrev pub value_at : List ℕ → Result ℕ AsmCause
@@ -145,10 +141,9 @@ signal_line words = do
 
 -- the word of an event, and whether the word `invalid` follows it; `Operand` for any other words
 abbrev pub wait_words : List (List ℕ) → Result (List ℕ × Bool) AsmCause
-wait_words [] = Err Operand
 wait_words (a ∷ []) = Ok (a, false)
 wait_words (a ∷ b ∷ []) = if bytes_eq b (codes "invalid") then Ok (a, true) else Err Operand
-wait_words (a ∷ b ∷ c ∷ rest) = Err Operand
+wait_words _ = Err Operand
 
 -- the instruction of the words after DMAWFE
 abbrev pub wait_line : List (List ℕ) → Result Insn AsmCause

@@ -76,6 +76,7 @@ pub fn assemble(alloc: Global, text: &[u8]) -> Result<Vec<u8>, AsmFault>
 /// Law: for every text, the function `assembled` agrees with the relations `Assembles` and `IsFirstFault`. It gives
 /// bytes exactly if the text assembles to them, and a fault exactly if it is the text's first fault and is not
 /// `NoMemory`.
+#[tactic(auto, using(crate::proofs::ProgramLaws::reading_reports))]
 pub fn reading_reports()
     ensures { ReadingReports }
 {}

@@ -7,7 +7,7 @@ ghost use Rattle.dma_insn.specs.declared.chip.ChipInsn.{ChipInsn};
 ghost use Rattle.dma_insn.specs.Spelling.{IsSpelledAt as IsCoreAt};
 ghost use Rattle.dma_insn.specs.Chip.{widened, spelling, HasRanges, IsSpelledAt, IsRefusedFor, decoded, decoded_core, added_by, again_by, beyond_core};
 
-use crate::codec::{DecodeFault, decode, encode};
+use crate::codec::{DecodeFault, decode, encode, write_one, write_two};
 use crate::insn::{Counter, Event, Insn, Reg, Times};
 use byteorder::{ByteOrder, LittleEndian};
 
@@ -110,10 +110,7 @@ pub fn encode_chip(insn: ChipInsn, out: &mut [u8; 6]) -> usize
         ChipInsn::LpEnd { counter, back } => encode(Insn::LpEnd { counter, back }, out),
         ChipInsn::Sev(event) => encode(Insn::Sev(event), out),
         ChipInsn::Wfe { event, invalid } => encode(Insn::Wfe { event, invalid }, out),
-        ChipInsn::StoreZeros => {
-            out[0] = 0x0c;
-            1
-        }
+        ChipInsn::StoreZeros => write_one(0x0c, out),
         ChipInsn::AddHalfword {
             address,
             half,
@@ -129,12 +126,11 @@ pub fn encode_chip(insn: ChipInsn, out: &mut [u8; 6]) -> usize
             3
         }
         ChipInsn::LoopAgain { counter, back } => {
-            out[0] = match counter {
+            let first = match counter {
                 Counter::Lc0 => 0x28,
                 Counter::Lc1 => 0x2c,
             };
-            out[1] = back;
-            2
+            write_two(first, back, out)
         }
     }
 }

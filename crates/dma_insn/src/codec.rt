@@ -195,6 +195,7 @@ fn wait(rest: &[u8]) -> Result<(Insn, usize), DecodeFault>
 
 /// Decodes DMAMOV from its second byte.
 #[inline(always)]
+#[tactic(auto, using(std::proofs::lemmas::Grind::common_steps))]
 pub fn decode_mov(rest: &[u8]) -> Result<(Insn, usize), DecodeFault>
     ensures { result ≡ set_by rest.now }
 {
@@ -212,6 +213,7 @@ pub fn decode_mov(rest: &[u8]) -> Result<(Insn, usize), DecodeFault>
 
 /// Law: no instruction's encoding is a prefix of another's. Bytes that begin with an instruction begin with no other,
 /// and the bytes after it are determined too, so a program's bytes are decoded in only one way.
+#[tactic(auto, using(crate::proofs::Laws::one_front))]
 pub fn no_spelling_begins_another()
     ensures { NoSpellingBeginsAnother }
 {}

@@ -27,6 +27,7 @@ pub enum DisFault {
 ///
 /// Fails with `Decode` for the first offset at which no instruction begins, and with `NoMemory` only if all bytes are
 /// instructions.
+#[tactic(auto, using(crate::proofs::Fronts::has_text))]
 pub fn disassemble(alloc: Global, bytes: &[u8]) -> Result<Vec<u8>, DisFault>
     // The bytes are encoded instructions, and the returned text has one line for each of them.
     ensures text { IfOk result (λ text. Disassembles bytes.now text.items) }
@@ -55,6 +56,7 @@ pub fn disassembly_assembles()
 
 /// Law: each list of bytes has either exactly one text or an offset at which no instruction begins. Instructions have
 /// only one text in which no line is skipped and a line feed ends each line.
+#[tactic(auto, using(crate::proofs::Fronts::disassembly_reports))]
 pub fn disassembly_reports()
     ensures { DisassemblyReports }
 {}

@@ -10,6 +10,7 @@ use dma_text::bytes::{is_text, position_of};
 use dma_text::lines::is_all_spaces;
 
 // Returns the first word, and the rest of the line, which is empty or begins with the space after the word.
+#[tactic(auto, using(crate::proofs::FirstWords::words_at, crate::proofs::FirstWords::words_none))]
 fn split_word(text: &[u8]) -> (&[u8], &[u8])
     ensures { words_of text.now ≡ result.0.now ∷ words_after result.1.now }
 {
@@ -92,6 +93,7 @@ fn decimal_digit(byte: u8) -> Option<u16>
 }
 
 // Returns the number that decimal digits spell, capped at 65,535, or `None` if a byte is not a digit.
+#[tactic(auto, using(std::proofs::lemmas::Grind::common_steps))]
 fn digits(word: &[u8]) -> Option<u16>
     ensures { result ≡ digits_from 0 word.now }
 {

@@ -1,11 +1,8 @@
-use Rattle.dma_insn.proofs.Fronts.{stops_none, same_text_of, has_text}
+use Rattle.dma_insn.proofs.Fronts.{stops_none, same_text_of}
 use Rattle.dma_insn.proofs.disassembler.disassemble.Goals as goal
 
 pub returns-in-Ok-clause-only : goal.returns-in-Ok-clause-only
 returns-in-Ok-clause-only c text h = same_text_of c.args.bytes.now _ text c.in-Ok.ensures.text h
-
-pub returns-in-None-clause-fault : goal.returns-in-None-clause-fault
-returns-in-None-clause-fault c = has_text c.args.bytes.now c.in-None.ensures
 
 pub returns-in-Err-Some-clause-only : goal.returns-in-Err-Some-clause-only
 returns-in-Err-Some-clause-only c text h =
