@@ -1,5 +1,5 @@
 -- The first word of a line.
-use Rattle.std.proofs.Common.{◌≡◌, ℕ, ◌-◌, ◌<◌, List, [], ◌∷◌, length, take, drop, get_or, true, false, eqb, zero, suc, refl, sym, ap, Some, None, position}
+use Rattle.std.proofs.Common.{◌≡◌, ℕ, ◌-◌, ◌<◌, List, [], ◌∷◌, length, take, drop, get_or, true, false, eqb, zero, suc, refl, ap, Some, None, position}
 use Rattle.std.proofs.Common.{arith}
 use Rattle.std.proofs.{lemmas.List.take_rest, lemmas.List.Quantifiers.position-Some, lemmas.List.Splits.slice_split_none}
 use Rattle.std.specs.List.{onto_first}
@@ -15,9 +15,7 @@ words_cut (b ∷ rest) (suc end) within at none =
 
 pub words_at : (line : List ℕ) (end : ℕ) → Some end ≡ position (λ x. eqb x 32) line
     → words_of line ≡ take end line ∷ words_after (take (length line - end) (drop end line))
-words_at line end found =
-    let at = position-Some (λ x. eqb x 32) line end 0 (sym found) in
-    rw (take_rest line end) (words_cut line end at.0 at.1 at.2)
+words_at line end found = grind (arith, position-Some, take_rest, words_cut)
 
 pub words_none : (line : List ℕ) → None ≡ position (λ x. eqb x 32) line → words_of line ≡ line ∷ []
 words_none line none = slice_split_none (λ x. eqb x 32) line (nowhere 32 line none)

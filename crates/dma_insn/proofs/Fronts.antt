@@ -50,19 +50,10 @@ front_offset offset is i n e c = rw (joined_push is i) (omega (arith, length-app
 -- one more instruction, at the front of a slice from the place on
 pub front_step : (bytes : List ℕ) (offset : ℕ) (i : Insn) (n : ℕ) → Front bytes offset → IsSpelledAt (take (length bytes - offset) (drop offset bytes)) i n
     → Front bytes (offset + n)
-front_step bytes offset i n f at =
-    let h = subst (λ (l : List ℕ). IsSpelledAt l i n) (take_rest bytes offset) at in
-    record {
-      insns = f.insns ++ i ∷ [];
-      in_range = all_push f.insns i f.in_range h.in_range;
-      bytes_are = front_bytes bytes offset f.insns i n f.bytes_are h;
-      offset_is = front_offset offset f.insns i n f.offset_is h.count_is;
-    }
+front_step bytes offset i n f at = grind (arith, take_rest, all_push, front_bytes, front_offset)
 
 pub front_all : (bytes : List ℕ) (offset : ℕ) → length bytes ≤ offset → Front bytes offset → AreSpelled bytes
-front_all bytes offset all f =
-    let none : drop offset bytes ≡ [] = drop_all offset bytes all in
-    record { insns = f.insns; in_range = f.in_range; bytes_are = f.bytes_are ∙ ap (λ (l : List ℕ). joined f.insns ++ l) none ∙ append-nil (joined f.insns) }
+front_all bytes offset all f = grind (arith, drop_all, append-nil)
 
 pub written_step : (bytes text new : List ℕ) (offset : ℕ) (i : Insn) (n : ℕ) → WrittenFront bytes offset text
     → IsSpelledAt (take (length bytes - offset) (drop offset bytes)) i n → new ≡ text ++ (insn_text i ++ 10 ∷ []) → WrittenFront bytes (offset + n) new
@@ -79,8 +70,7 @@ written_all bytes text offset all f =
     disassembles bytes text spelled.insns spelled.in_range spelled.bytes_are f.text_is
 
 spelled_front : (i : Insn) (rest more : List ℕ) → HasRanges i → rest ≡ spelling i ++ more → IsSpelledAt rest i (length (spelling i))
-spelled_front i rest more h e =
-    record { in_range = h; count_is = refl; bytes_are = ap (take (length (spelling i))) e ∙ take-append_seam (spelling i) more }
+spelled_front i rest more h e = grind (arith, take-append_seam)
 
 -- If no instruction begins behind a front of joined spellings, no other such front is longer.
 longest_front : (is js : List Insn) (rest more : List ℕ) → AllInRange is → AllInRange js → joined is ++ rest ≡ joined js ++ more
@@ -100,25 +90,7 @@ longest_front (i ∷ is) (j ∷ js) rest more hi hj e none =
 pub stops : (bytes : List ℕ) (offset : ℕ) (fault : DecodeFault) → offset < length bytes → Front bytes offset
     → Err fault ≡ decoded (take (length bytes - offset) (drop offset bytes)) → IsRefusedFor (take (length bytes - offset) (drop offset bytes)) fault
     → ((i : Insn) (n : ℕ) → IsSpelledAt (take (length bytes - offset) (drop offset bytes)) i n → ⊥) → StopsAt bytes offset fault
-stops bytes offset fault within f fault_is refused none =
-    let rest = drop offset bytes in
-    let same = take_rest bytes offset in
-    let none_here : (i : Insn) (n : ℕ) → IsSpelledAt rest i n → ⊥ = λ i n h. none i n (subst (λ (l : List ℕ). IsSpelledAt l i n) (sym same) h) in
-    let size : length bytes ≡ length (joined f.insns ++ rest) = ap length f.bytes_are in
-    let parts = length-append (joined f.insns) rest in
-    let at = f.offset_is in
-    record {
-      insns = f.insns;
-      rest = rest;
-      in_range = f.in_range;
-      bytes_are = f.bytes_are;
-      offset_is = f.offset_is;
-      some = omega arith;
-      fault_is = ap decoded (sym same) ∙ sym fault_is;
-      refused = subst (λ (l : List ℕ). IsRefusedFor l fault) same refused;
-      none = none_here;
-      longest = λ others more ranges e. let most = longest_front f.insns others rest more f.in_range ranges (sym f.bytes_are ∙ e) none_here in omega arith;
-    }
+stops bytes offset fault within f fault_is refused none = grind (arith, take_rest, length-append, longest_front)
 
 -- Bytes that stop have no text.
 pub stops_none : (bytes text : List ℕ) (offset : ℕ) (fault : DecodeFault) → StopsAt bytes offset fault → Disassembles bytes text → ⊥
@@ -134,21 +106,15 @@ stops_none bytes text offset fault s d =
 -- Bytes are the spellings of one list of instructions.
 pub same_insns : (is js : List Insn) → AllInRange is → AllInRange js → joined is ≡ joined js → is ≡ js
 same_insns [] [] hi hj e = refl
-same_insns [] (j ∷ js) hi hj e =
-    let size : 0 ≡ length (spelling j ++ joined js) = ap length e in
-    absurd (let some = spelling_some decodes j hj.0 in omega (arith, length-append (spelling j) (joined js)))
-same_insns (i ∷ is) [] hi hj e =
-    let size : length (spelling i ++ joined is) ≡ 0 = ap length e in
-    absurd (let some = spelling_some decodes i hi.0 in omega (arith, length-append (spelling i) (joined is)))
+same_insns [] (j ∷ js) hi hj e = grind (arith, spelling_some, decodes, length-append)
+same_insns (i ∷ is) [] hi hj e = grind (arith, spelling_some, decodes, length-append)
 same_insns (i ∷ is) (j ∷ js) hi hj e =
     let same = one_front i j (joined is) (joined js) hi.0 hj.0 e in
     let rest = same_insns is js hi.1 hj.1 same.1 in
     rw (same.0, rest) refl
 
 pub same_text_of : (bytes a b : List ℕ) → Disassembles bytes a → Disassembles bytes b → a ≡ b
-same_text_of bytes a b p q =
-    let same = same_insns p.insns q.insns p.in_range q.in_range (sym p.bytes_are ∙ q.bytes_are) in
-    p.text_is ∙ ap text_of same ∙ sym q.text_is
+same_text_of bytes a b p q = grind (arith, same_insns)
 
 pub has_text : (bytes : List ℕ) → AreSpelled bytes → (text : List ℕ) × Disassembles bytes text
 has_text bytes h = (text_of h.insns, disassembles bytes (text_of h.insns) h.insns h.in_range h.bytes_are refl)

@@ -1,5 +1,5 @@
 -- How decoding and encoding are related, for any kind of instructions.
-use Rattle.std.proofs.Common.{◌≡◌, ℕ, ◌<◌, ◌≤◌, false, List, [], ◌∷◌, ◌++◌, length, drop, take, get_or, suc, sym, ap, ◌∙◌, subst, Ok, Err}
+use Rattle.std.proofs.Common.{◌≡◌, ℕ, ◌<◌, ◌≤◌, false, List, [], ◌∷◌, ◌++◌, length, drop, get_or, suc, sym, ap, ◌∙◌, subst, Ok, Err}
 use Rattle.std.proofs.Common.{arith, cond, eqb}
 use Rattle.std.proofs.lemmas.Bool.{eqb-true, cond_both}
 use Rattle.std.proofs.lemmas.List.{take-append-drop, length-take}
@@ -37,18 +37,13 @@ module _ {I : Type 0} {Ranges : I → Type 0} {spelling : I → List ℕ} {decod
 
   -- An instruction that begins with this byte has more bytes than there are.
   pub cut : (i : I) (b : ℕ) (rest tail : List ℕ) → Ranges i → spelling i ≡ b ∷ tail → length rest < length tail → Refused Ranges spelling (b ∷ rest) Cut
-  cut i b rest tail h e few =
-      let long : length (spelling i) ≡ length (b ∷ tail) = ap length e in
-      (i, record { in_range = h; tail = tail; bytes_are = e }, omega (arith, few))
+  cut i b rest tail h e few = grind arith
 
   pub bad : (i : I) (b : ℕ) (rest tail : List ℕ) → Ranges i → spelling i ≡ b ∷ tail → length tail ≤ length rest → Refused Ranges spelling (b ∷ rest) BadField
-  bad i b rest tail h e more =
-      let long : length (spelling i) ≡ length (b ∷ tail) = ap length e in
-      (i, record { in_range = h; tail = tail; bytes_are = e }, omega (arith, more))
+  bad i b rest tail h e more = grind arith
 
   pub right_ok : (bytes : List ℕ) (r : Found I) → Right bytes r → IfOk r (λ found. Spelled Ranges spelling bytes found.0 found.1)
-  right_ok bytes (Ok x) h = h
-  right_ok bytes (Err fault) h = tt
+  right_ok bytes r h = grind (arith)
 
   refused : (bytes : List ℕ) (fault : DecodeFault) → Fails bytes fault → Refused Ranges spelling bytes fault
   refused (first ∷ rest) (Unknown b) h = (
@@ -74,16 +69,10 @@ module _ {I : Type 0} {Ranges : I → Type 0} {spelling : I → List ℕ} {decod
 
   -- An instruction that is encoded at the front has at least one byte, and not more than there are.
   pub spelled_within : (bytes : List ℕ) (i : I) (n : ℕ) → Spelled Ranges spelling bytes i n → (0 < n) × (n ≤ length bytes)
-  spelled_within bytes i n h =
-      let some = spelling_some i h.in_range in
-      let count = h.count_is in
-      let same : length (take n bytes) ≡ length (spelling i) = ap length h.bytes_are in
-      let taken = length-take n bytes in
-      (omega arith, omega arith)
+  spelled_within bytes i n h = grind (arith, spelling_some, length-take)
 
   pub right_within : (bytes : List ℕ) (r : Found I) → Right bytes r → IfOk r (λ found. (0 < found.1) × (found.1 ≤ length bytes))
-  right_within bytes (Ok x) h = spelled_within bytes x.0 x.1 h
-  right_within bytes (Err fault) h = tt
+  right_within bytes r h = grind (arith, spelled_within)
 
   pub decoded_at : (bytes : List ℕ) (i : I) (n : ℕ) → Spelled Ranges spelling bytes i n → decode bytes ≡ Ok (i, n)
   decoded_at bytes i n h =
@@ -92,8 +81,7 @@ module _ {I : Type 0} {Ranges : I → Type 0} {spelling : I → List ℕ} {decod
 
   -- where decoding fails, no instruction is encoded
   pub none_spelled : (bytes : List ℕ) (r : Found I) → r ≡ decode bytes → IfErr r (λ _. (i : I) (n : ℕ) → Spelled Ranges spelling bytes i n → ⊥)
-  none_spelled bytes (Ok x) e = tt
-  none_spelled bytes (Err fault) e = λ i n h. let found = decoded_at bytes i n h in cc
+  none_spelled bytes r h = grind (arith, decoded_at)
 
 -- The instructions of one grammar are instructions of another, with the same bytes.
 pub record Extends {I J : Type 0} (Ranges : I → Type 0) (spelling : I → List ℕ) (Wide : J → Type 0) (wide : J → List ℕ) (into : I → J) : Type 0 where
@@ -103,11 +91,7 @@ pub record Extends {I J : Type 0} (Ranges : I → Type 0) (spelling : I → List
 module _ {I J : Type 0} {Ranges : I → Type 0} {spelling : I → List ℕ} {Wide : J → Type 0} {wide : J → List ℕ} {into : I → J}
     (extends : Extends Ranges spelling Wide wide into) where
   pub wide_at : (bytes : List ℕ) (i : I) (n : ℕ) → Spelled Ranges spelling bytes i n → Spelled Wide wide bytes (into i) n
-  wide_at bytes i n h = record {
-    in_range = extends.in_range i h.in_range;
-    count_is = h.count_is ∙ ap length (sym (extends.same i));
-    bytes_are = h.bytes_are ∙ sym (extends.same i);
-  }
+  wide_at bytes i n h = grind arith
 
   wide_begins : (i : I) (b : ℕ) → Begins Ranges spelling i b → Begins Wide wide (into i) b
   wide_begins i b h = record { in_range = extends.in_range i h.in_range; tail = h.tail; bytes_are = extends.same i ∙ h.bytes_are }
@@ -121,5 +105,4 @@ module _ {I J : Type 0} {Ranges : I → Type 0} {spelling : I → List ℕ} {Wid
   more_right decodes wides more beyond [] (Err _) h right = absurd right
   more_right decodes wides more beyond (b ∷ rest) (Err (Unknown c)) h right =
       subst (λ (k : ℕ). Right wides (b ∷ rest) (more k (b ∷ rest))) (sym right.0) (beyond b rest (λ i. h (suc i)) right.1)
-  more_right decodes wides more beyond (b ∷ rest) (Err _) h right =
-      (into right.0, wide_begins right.0 b right.1, omega (arith, right.2, ap length (extends.same right.0)))
+  more_right decodes wides more beyond (b ∷ rest) (Err _) h right = grind (arith, wide_begins)

@@ -1,9 +1,9 @@
 -- How decoding and encoding are related.
 use Rattle.std.proofs.Common.{◌≡◌, ℕ, ◌+◌, ◌-◌, ◌*◌, ◌/◌, ◌%◌, ◌^◌, ◌<◌, ◌≤◌, Bool, true, false, List, [], ◌∷◌, ◌++◌, length, take, refl, sym, ap}
-use Rattle.std.proofs.Common.{◌∙◌, Ok, arith, eqb, ltb, suc}
+use Rattle.std.proofs.Common.{Ok, arith, eqb, ltb, suc}
 use Rattle.std.proofs.lemmas.Bool.{eqb-true, cond_both, le-ltb, ltb-false, ltb-true}
 use Rattle.std.proofs.{lemmas.Nat.div-mul-add, lemmas.Nat.mod-mul-add, lemmas.List.append_cancel_left}
-use Rattle.byteorder.specs.{Numbers.little_number-reads_back, Endian.little_bytes, Endian.little_number}
+use Rattle.byteorder.specs.{Endian.little_bytes, Endian.little_number}
 use Rattle.dma_insn.specs.declared.insn.Reg.TheVariants.{Sar, Ccr, Dar}
 use Rattle.dma_insn.specs.declared.insn.Insn.TheVariants.{Mov, Ld, St, Rmb, Wmb, Nop, End, Lp, LpEnd, Sev, Wfe}
 use Rattle.dma_insn.specs.Spelling.{spelling, HasRanges, IsSpelledAt, IsRefusedFor, register_byte, loop_byte, loop_end_byte, invalid_bits}
@@ -18,31 +18,17 @@ field : (e b : ℕ) → b < 8 → ((e * 8 + b) / 8 ≡ e) × ((e * 8 + b) % 8 �
 field e b h = (div-mul-add e 8 b h, mod-mul-add e 8 b h)
 
 signal_again : (e : ℕ) → signal_at (e * 8) ≡ Ok (Sev e, 2)
-signal_again e =
-    let z : e * 8 ≡ e * 8 + 0 = omega arith in
-    let f = field e 0 (omega arith) in
-    ap signal_at z ∙ rw (f.1, f.0) refl
+signal_again e = grind arith
 
 wait_again : (e : ℕ) (v : Bool) → wait_at (e * 8 + invalid_bits v) ≡ Ok (Wfe e v, 2)
-wait_again e true = let f = field e 2 (omega arith) in rw (f.1, f.0) refl
-wait_again e false = let f = field e 0 (omega arith) in rw (f.1, f.0) refl
+wait_again e v = grind (arith)
 
 set_again : (r : Reg) (v : ℕ) (rest : List ℕ) → v < 2 ^ 32 → set_by (register_byte r ∷ (little_bytes 4 v ++ rest)) ≡ Ok (Mov r v, 6)
-set_again r v rest h =
-    let bytes = register_byte r ∷ (little_bytes 4 v ++ rest) in
-    let long : 5 ≤ length bytes = omega arith in
-    rw (le-ltb (length bytes) 5 long, little_number-reads_back 4 v rest h)
-    (elim r as (λ q. set_at (register_byte q) v ≡ Ok (Mov q v, 6)) [ Sar ↦ refl | Ccr ↦ refl | Dar ↦ refl ])
+set_again r v rest h = grind (arith, le-ltb)
 
 -- an encoded instruction is decoded, whatever follows
 pub decoded_spelling : (i : Insn) (rest : List ℕ) → HasRanges i → decoded (spelling i ++ rest) ≡ Ok (i, length (spelling i))
-decoded_spelling (Lp Lc0 n) rest h = let e : n - 1 + 1 ≡ n = omega (arith, h.0) in ap (λ (m : ℕ). Ok (Lp Lc0 m, 2)) e
-decoded_spelling (Lp Lc1 n) rest h = let e : n - 1 + 1 ≡ n = omega (arith, h.0) in ap (λ (m : ℕ). Ok (Lp Lc1 m, 2)) e
-decoded_spelling (Sev e) rest h = signal_again e
-decoded_spelling (Wfe e v) rest h = wait_again e v
-decoded_spelling (Mov r v) rest h = set_again r v rest h
-decoded_spelling (LpEnd Lc0 b) rest h = refl
-decoded_spelling _ rest h = refl
+decoded_spelling i rest h = grind (arith, signal_again, wait_again, set_again)
 
 pub decodes : Decodes HasRanges spelling decoded
 decodes = record { again = decoded_spelling; none = refl }
@@ -55,12 +41,7 @@ same_ok : (r : Decoded) (x y : Insn × ℕ) → r ≡ Ok x → r ≡ Ok y → x 
 same_ok r x y left right = cc
 
 pub one_front : NoSpellingBeginsAnother
-one_front i j xs ys hi hj e =
-    let left = decoded_spelling i xs hi in
-    let right = decoded_spelling j ys hj in
-    let both = same_ok (decoded (spelling i ++ xs)) (i, length (spelling i)) (j, length (spelling j)) left (ap decoded e ∙ right) in
-    let same : i ≡ j = ap (λ (p : Insn × ℕ). p.0) both in
-    (same, append_cancel_left (spelling i) xs ys (e ∙ ap (λ (k : Insn). spelling k ++ ys) (sym same)))
+one_front i j xs ys hi hj e = grind (arith, decoded_spelling, same_ok, append_cancel_left)
 
 one : (i : Insn) (rest : List ℕ) (b : ℕ) → HasRanges i → spelling i ≡ b ∷ [] → IsSpelledAt (b ∷ rest) i 1
 one i rest b h e = record { in_range = h; count_is = sym (ap length e); bytes_are = sym e }
@@ -104,15 +85,7 @@ wait_right (b ∷ rest) h =
 
 -- The bytes of the number that four bytes read as, the lowest first, are those bytes again.
 pub little_bytes_little_number : (bytes : List ℕ) → IsBytes bytes → 4 ≤ length bytes → little_bytes 4 (little_number 4 bytes) ≡ take 4 bytes
-little_bytes_little_number (b ∷ c ∷ d ∷ e ∷ rest) h n =
-    let v = little_number 4 (b ∷ c ∷ d ∷ e ∷ rest) in
-    let bounds : (b < 256) × (c < 256) × (d < 256) × (e < 256) = (h 0, h 1, h 2, h 3) in
-    let e0 : b ≡ v % 256 = omega (arith, bounds) in
-    let e1 : c ≡ v / 256 % 256 = omega (arith, bounds) in
-    let e2 : d ≡ v / 65536 % 256 = omega (arith, bounds) in
-    let e3 : e ≡ v / 16777216 % 256 = omega (arith, bounds) in
-    cc (e0, e1, e2, e3)
-little_bytes_little_number _ h n = absurd (omega arith)
+little_bytes_little_number bytes h h2 = grind (arith)
 
 set_cut : (rest : List ℕ) → length rest < 5 → IsRefusedFor (0xbc ∷ rest) Cut
 set_cut rest h = cut decodes (Mov Sar 0) 0xbc rest (0 ∷ little_bytes 4 0) (omega arith) refl (omega arith)
@@ -121,11 +94,7 @@ set_bad : (rest : List ℕ) → 5 ≤ length rest → IsRefusedFor (0xbc ∷ res
 set_bad rest h = bad decodes (Mov Sar 0) 0xbc rest (0 ∷ little_bytes 4 0) (omega arith) refl (omega arith)
 
 set_whole : (r : Reg) (rest : List ℕ) → IsBytes rest → 4 ≤ length rest → IsSpelledAt (0xbc ∷ register_byte r ∷ rest) (Mov r (little_number 4 rest)) 6
-set_whole r rest h n = record {
-  in_range = omega (arith, h 0, h 1, h 2, h 3);
-  count_is = refl;
-  bytes_are = ap (λ (xs : List ℕ). 0xbc ∷ register_byte r ∷ xs) (sym (little_bytes_little_number rest h n));
-}
+set_whole r rest h n = grind (arith, little_bytes_little_number)
 
 set_field : (a : ℕ) (rest : List ℕ) → IsBytes rest → ltb (length (a ∷ rest)) 5 ≡ false → Right (0xbc ∷ a ∷ rest) (set_at a (little_number 4 rest))
 set_field a rest h n =

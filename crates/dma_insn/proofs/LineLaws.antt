@@ -1,6 +1,6 @@
 -- The result of reading a line, compared with the statement of its words.
 use Rattle.std.proofs.Common.{◌≡◌, ℕ, ◌^◌, ◌<◌, ◌≤◌, Bool, true, false, ◌&&◌, List, [], ◌∷◌, refl, sym, ap, ◌∙◌, subst, Option, Some, None, Result, Ok, Err}
-use Rattle.std.proofs.Common.{cond, leb, arith, inl, inr}
+use Rattle.std.proofs.Common.{cond, leb, arith}
 use Rattle.std.specs.{Prelude.codes, Option.option_and_then, Option.ok_or, Str.bytes_eq, Cmp.Lexicographic.same_text, List.list_any}
 use Rattle.std.proofs.lemmas.Bool.{ne_eqb, le-leb, lt-leb, cases_lt}
 use Rattle.dma_insn.specs.declared.insn.Reg.TheVariants.{Sar, Ccr, Dar}
@@ -16,15 +16,10 @@ use Rattle.dma_insn.proofs.Numbers.{number_of_reads, number_of_decimal, value_of
 
 -- the ranges treat a number above 65,535 as 65,535
 same_capped : {A : Type 0} (f : ℕ → A) → ((k : ℕ) → 65535 ≤ k → f k ≡ f 65535) → (k : ℕ) → f (capped k) ≡ f k
-same_capped f large k =
-    elim (cases_lt k 65536) [
-      | inl low ↦ let same : capped k ≡ k = omega arith in ap f same
-      | inr high ↦ let same : capped k ≡ 65535 = omega arith in ap f same ∙ sym (large k (omega arith))
-    ]
+same_capped f large k = grind (arith, cases_lt)
 
 counter_capped : (k : ℕ) → counter_at (capped k) ≡ counter_at k
-counter_capped k =
-    same_capped counter_at (λ j h. rw (ne_eqb j 0 (λ z. omega arith), ne_eqb j 1 (λ z. omega arith)) refl) k
+counter_capped k = grind (arith, same_capped, ne_eqb)
 
 times_capped : (k : ℕ) → times_at (capped k) ≡ times_at k
 times_capped k = same_capped times_at (λ j h. rw (le-leb 1 j (omega arith), lt-leb j 256 (omega arith)) refl) k
@@ -38,16 +33,13 @@ event_capped k = same_capped event_at (λ j h. rw (lt-leb j 31 (omega arith)) re
 -- the ranges tested one after another, and as a statement has them
 loop_ranges : (g : Counter → ℕ → Insn) (o : Option Counter) (t : Bool) (m : ℕ)
     → (ok_or o Range >>= λ c. (cond t (Ok m) (Err Range) >>= λ k. Ok (g c k))) ≡ ok_or (option_and_then (λ c. cond t (Some (g c m)) None) o) Range
-loop_ranges g (Some c) true m = refl
-loop_ranges g _ t m = refl
+loop_ranges g o t m = grind (arith)
 
 event_range : (g : ℕ → Insn) (t : Bool) (e : ℕ) → (cond t (Ok e) (Err Range) >>= λ k. Ok (g k)) ≡ ok_or (cond t (Some (g e)) None) Range
-event_range g true e = refl
-event_range g false e = refl
+event_range g t e = grind (arith)
 
 register_of_word : (r : Reg) → register_of (register_word r) ≡ Some r
-register_of_word Sar = refl
-register_of_word _ = refl
+register_of_word r = grind (arith)
 
 -- What the words of a statement are read as: its instruction, or Range.
 loop_read : (a b : List ℕ) (c m : ℕ) → IsDecimal a c → IsDecimal b m → loop_line (a ∷ b ∷ []) ≡ ok_or (insn_of (dmalp c m)) Range
@@ -88,8 +80,7 @@ IsReported words (Err Operand) = list_any (λ name. bytes_eq (first_of words) na
 IsReported words (Err Range) = (s : Statement) × IsWritten words s × (insn_of s ≡ None)
 
 reported_insn : (words : List (List ℕ)) (s : Statement) (o : Option Insn) → insn_of s ≡ o → IsWritten words s → IsReported words (ok_or o Range)
-reported_insn words s None e h = (s, h, e)
-reported_insn words s (Some i) e h = (s, h, e)
+reported_insn words s o h h2 = grind (arith)
 
 -- words that are read as a statement's
 reported_written : (words : List (List ℕ)) (s : Statement) (r : Result Insn AsmCause) → IsWritten words s → r ≡ ok_or (insn_of s) Range → IsReported words r
@@ -97,8 +88,7 @@ reported_written words s r h e = subst (IsReported words) (sym e) (reported_insn
 
 bare_reported : (name : List ℕ) (i : Insn) (words : List (List ℕ)) → list_any (λ x. bytes_eq name x) names ≡ true → IsReported (name ∷ []) (Ok i)
     → IsReported (name ∷ words) (bare_line i words)
-bare_reported name i [] known h = h
-bare_reported name i (a ∷ rest) known h = known
+bare_reported name i words h h2 = grind (arith)
 
 -- what two numbers behind a name are read as
 module _ (name : List ℕ) (f : ℕ × ℕ → Result Insn AsmCause) (s : ℕ → ℕ → Statement) (known : list_any (λ x. bytes_eq name x) names ≡ true)
@@ -115,8 +105,7 @@ module _ (name : List ℕ) (f : ℕ × ℕ → Result Insn AsmCause) (s : ℕ �
       reported_written (name ∷ a ∷ b ∷ []) (s m.number n.number) _ (written _ m.number n.number words) (read a b m.number n.number m.is_decimal n.is_decimal)
 
   two_reported : (words : List (List ℕ)) → IsReported (name ∷ words) (two_numbers words >>= f)
-  two_reported (a ∷ b ∷ []) = two_reported_by a b (number_of a) (number_of b) refl refl
-  two_reported _ = known
+  two_reported words = grind (arith, two_reported_by)
 
 -- and one number
 number_reported : (words : List (List ℕ)) (a : List ℕ) (s : ℕ → Statement) (f : ℕ → Result Insn AsmCause) (x : Option ℕ) → number_of a ≡ x
@@ -168,8 +157,7 @@ set_reported_by a b (Some r) (Some v) p q =
     reported_written (codes "DMAMOV" ∷ a ∷ b ∷ []) (dmamov r v) _ (record { words_are = words; in_range = g.small }) (rw (p, q) refl)
 
 set_reported : (words : List (List ℕ)) → IsReported (codes "DMAMOV" ∷ words) (set_line words)
-set_reported (a ∷ b ∷ []) = set_reported_by a b (register_of a) (value_of b) refl refl
-set_reported _ = refl
+set_reported words = grind (arith, set_reported_by)
 
 -- one test of the chain of names
 name_step : (word : List ℕ) (words : List (List ℕ)) (name : List ℕ) (here rest : Result Insn AsmCause) (b : Bool) → bytes_eq word name ≡ b

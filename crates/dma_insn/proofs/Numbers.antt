@@ -1,6 +1,6 @@
 -- The numbers that words write.
-use Rattle.std.proofs.Common.{◌≡◌, ℕ, ◌+◌, ◌-◌, ◌*◌, ◌/◌, ◌%◌, ◌^◌, ◌<◌, ◌≤◌, Bool, true, false, ◌&&◌, List, [], ◌∷◌, length, get_or, refl, sym, ap, ◌∙◌}
-use Rattle.std.proofs.Common.{Option, Some, None, cond, eqb, leb, arith, inl, inr}
+use Rattle.std.proofs.Common.{◌≡◌, ℕ, ◌+◌, ◌-◌, ◌*◌, ◌/◌, ◌%◌, ◌^◌, ◌<◌, Bool, true, false, ◌&&◌, List, [], ◌∷◌, length, get_or, refl, sym, ◌∙◌}
+use Rattle.std.proofs.Common.{Option, Some, None, cond, eqb, leb, arith}
 use Rattle.std.proofs.lemmas.Bool.{eqb-true, eqb-false, ne_eqb, leb-true, le-leb, lt-leb, le-ltb, lt-ltb, cases_lt, and_parts}
 use Rattle.std.specs.{Option.option_and_then, Str.all_ascii_digits, Char.is_ascii_digit, Char.digit_value, Str.Parse.digits_value, Str.Parse.digits_value_after}
 use Rattle.std.specs.{Fmt.digit_glyph}
@@ -9,11 +9,7 @@ use Rattle.dma_insn.specs.LineReading.{capped, digits_from, number_of, hex_digit
 
 -- a digit's value
 digit_value_is : (c : ℕ) → is_ascii_digit c ≡ true → digit_value c ≡ c - 48
-digit_value_is c h =
-    let t = and_parts (leb 48 c) (leb c 57) h in
-    let low : 48 ≤ c = leb-true 48 c t.0 in
-    let high : c ≤ 57 = leb-true c 57 t.1 in
-    rw (le-ltb c 48 (omega arith), lt-ltb c 58 (omega arith)) refl
+digit_value_is c h = grind (arith, and_parts, leb-true, le-ltb, lt-ltb)
 
 -- decimal digits are read, capped
 digits_read : (v : ℕ) (cs : List ℕ) → all_ascii_digits cs ≡ true → digits_from (capped v) cs ≡ Some (capped (digits_value_after 10 v cs))
@@ -27,8 +23,7 @@ digits_read v (c ∷ cs) h =
 -- what is read is digits
 digits_only_by : (b : Bool) (v k c : ℕ) (cs : List ℕ) → ((w : ℕ) → digits_from w cs ≡ Some k → all_ascii_digits cs ≡ true)
     → option_and_then (λ d. digits_from (capped (v * 10 + d)) cs) (cond b (Some (c - 48)) None) ≡ Some k → (b && all_ascii_digits cs) ≡ true
-digits_only_by true v k c cs rest e = rest (capped (v * 10 + (c - 48))) e
-digits_only_by false v k c cs rest e = absurd (cc)
+digits_only_by b v k c cs h h2 = grind (arith)
 
 digits_only : (v k : ℕ) (cs : List ℕ) → digits_from v cs ≡ Some k → all_ascii_digits cs ≡ true
 digits_only v k [] e = refl
@@ -71,22 +66,7 @@ number_of_decimal (c ∷ d ∷ rest) n h =
 
 -- A hexadecimal digit.
 hex_digit_glyph : (d : ℕ) → d < 16 → hex_digit_of (digit_glyph true d) ≡ Some d
-hex_digit_glyph d small = elim (cases_lt d 10) [
-  | inl low ↦
-      let same : 48 + d - 48 ≡ d = omega arith in
-      rw (lt-ltb d 10 low, le-leb 48 (48 + d) (omega arith), le-leb (48 + d) 57 (omega arith), same) refl
-  | inr high ↦
-      let same : 55 + d - 55 ≡ d = omega arith in
-      rw (
-        le-ltb d 10 high,
-        le-leb 48 (55 + d) (omega arith),
-        lt-leb (55 + d) 57 (omega arith),
-        le-leb 65 (55 + d) (omega arith),
-        le-leb (55 + d) 70
-            (omega arith),
-        same,
-      ) refl
-]
+hex_digit_glyph d small = grind (arith, cases_lt, lt-ltb, le-leb, le-ltb, lt-leb)
 
 -- A character that is a hexadecimal digit is the glyph of its value.
 pub record IsHexDigit (c d : ℕ) : Type 0 where
@@ -95,17 +75,7 @@ pub record IsHexDigit (c d : ℕ) : Type 0 where
 
 hex_by : (c d : ℕ) (s t : Bool) → (leb 48 c && leb c 57) ≡ s → (leb 65 c && leb c 70) ≡ t → cond s (Some (c - 48)) (cond t (Some (c - 55)) None) ≡ Some d
     → IsHexDigit c d
-hex_by c d true t a b e =
-    let value : c - 48 ≡ d = some_same (c - 48) d e in
-    let parts = and_parts (leb 48 c) (leb c 57) a in
-    let small : d < 10 = omega (arith, leb-true 48 c parts.0, leb-true c 57 parts.1) in
-    record { small = omega arith; glyph = rw (lt-ltb d 10 small) (omega (arith, leb-true 48 c parts.0)) }
-hex_by c d false true a b e =
-    let value : c - 55 ≡ d = some_same (c - 55) d e in
-    let parts = and_parts (leb 65 c) (leb c 70) b in
-    let big : 10 ≤ d = omega (arith, leb-true 65 c parts.0) in
-    record { small = omega (arith, leb-true c 70 parts.1); glyph = rw (le-ltb d 10 big) (omega (arith, leb-true 65 c parts.0)) }
-hex_by c d false false a b e = absurd (cc)
+hex_by c d s t h h2 h3 = grind (arith, some_same, and_parts, leb-true, lt-ltb, le-ltb)
 
 hex_digit_is : (c d : ℕ) → hex_digit_of c ≡ Some d → IsHexDigit c d
 hex_digit_is c d e = hex_by c d (leb 48 c && leb c 57) (leb 65 c && leb c 70) refl refl e
@@ -118,8 +88,7 @@ pub record HexStep (value c : ℕ) (rest : List ℕ) (v : ℕ) : Type 0 where
 
 hex_step_by : (value c : ℕ) (rest : List ℕ) (v : ℕ) (o : Option ℕ) → hex_digit_of c ≡ o → option_and_then (λ d. hex_from (value * 16 + d) rest) o ≡ Some v
     → HexStep value c rest v
-hex_step_by value c rest v None is e = absurd (cc)
-hex_step_by value c rest v (Some d) is e = record { digit = d; is = hex_digit_is c d is; more = e }
+hex_step_by value c rest v o h h2 = grind (arith, hex_digit_is)
 
 hex_step : (value c : ℕ) (rest : List ℕ) (v : ℕ) → hex_from value (c ∷ rest) ≡ Some v → HexStep value c rest v
 hex_step value c rest v e = hex_step_by value c rest v (hex_digit_of c) refl e
@@ -183,19 +152,4 @@ value_of_reads _ v e = absurd (cc)
 
 -- The word of a value is read as it.
 pub value_of_word : (v : ℕ) → v < 2 ^ 32 → value_of (value_word v) ≡ Some v
-value_of_word v small =
-    let whole : (((((((0 * 16 + v / 0x10000000 % 16) * 16 + v / 0x1000000 % 16) * 16 + v / 0x100000 % 16) * 16 + v / 0x10000 % 16) * 16 + v / 0x1000 % 16) * 16
-    + v / 0x100 % 16) * 16 + v / 0x10 % 16) * 16 + v / 0x1 % 16 ≡ v = omega arith in
-    rw (
-      hex_digit_glyph (v / 0x10000000 % 16) (omega arith),
-      hex_digit_glyph (v / 0x1000000 % 16) (omega arith),
-      hex_digit_glyph (v / 0x100000 % 16)
-          (omega arith),
-      hex_digit_glyph (v / 0x10000 % 16) (omega arith),
-      hex_digit_glyph (v / 0x1000 % 16) (omega arith),
-      hex_digit_glyph (v / 0x100 % 16)
-          (omega arith),
-      hex_digit_glyph (v / 0x10 % 16) (omega arith),
-      hex_digit_glyph (v / 0x1 % 16) (omega arith),
-    )
-    (ap Some whole)
+value_of_word v small = grind (arith, hex_digit_glyph)

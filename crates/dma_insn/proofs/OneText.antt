@@ -1,12 +1,11 @@
 -- A program has only one text in which no line is skipped and each is ended.
-use Rattle.std.proofs.Common.{◌≡◌, ℕ, ◌^◌, ◌<◌, Bool, true, false, List, [], ◌∷◌, ◌++◌, map, refl, sym, ap, ◌∙◌, subst, Some, None, cond, eqb, arith, drop}
-use Rattle.std.specs.{Prelude.codes, Prelude.decimal, Prelude.flat_map, Prelude.MatchBool, List.list_any, List.onto_first, Option.option_and_then}
+use Rattle.std.proofs.Common.{◌≡◌, ℕ, ◌^◌, ◌<◌, Bool, true, false, List, [], ◌∷◌, ◌++◌, map, sym, ap, ◌∙◌, subst, Some, None, cond, eqb, arith}
+use Rattle.std.specs.{Prelude.decimal, Prelude.flat_map, Prelude.MatchBool, List.list_any, Option.option_and_then}
 use Rattle.std.specs.List.{join_with_byte}
 use Rattle.std.proofs.lemmas.List.Splits.{join_with_byte-slice_split}
 use Rattle.std.proofs.{lemmas.Bool.eqb-true, lemmas.Bool.false≢true, lemmas.Bool.or_parts, lemmas.Fmt.decimal-digits_value}
-use Rattle.dma_insn.specs.declared.insn.Insn.TheVariants.{Mov, Ld, St, Rmb, Wmb, Nop, End, Lp, LpEnd, Sev, Wfe}
-use Rattle.dma_insn.specs.AssemblyText.{words_of, is_skipped, IsDecimal, Statement, dmaend, dmald, dmast, dmarmb, dmawmb, dmanop, dmalp, dmalpend, dmasev}
-use Rattle.dma_insn.specs.AssemblyText.{dmawfe, dmamov, HasNumber, HasTwoNumbers, IsWritten, insn_of, Writes, WritesFirst, WriteAll, ProgramText}
+use Rattle.dma_insn.specs.AssemblyText.{words_of, is_skipped, IsDecimal, Statement}
+use Rattle.dma_insn.specs.AssemblyText.{HasNumber, HasTwoNumbers, IsWritten, insn_of, Writes, WritesFirst, WriteAll, ProgramText}
 use Rattle.dma_insn.specs.{declared.insn.Counter.Counter, declared.insn.Counter.TheVariants.Lc0, declared.insn.Counter.TheVariants.Lc1, declared.insn.Insn.Insn}
 use Rattle.dma_insn.specs.{Spelling.HasRanges, Disassembly.AllInRange, Disassembly.counter_number, Disassembly.insn_text, Disassembly.text_of}
 use Rattle.dma_text.specs.Lines.{text_lines}
@@ -34,41 +33,18 @@ same_one ws vs name n more hn h k = h.words_are ∙ ap (λ (w : List ℕ). name 
 
 -- one test of a range
 in_range : (t : Bool) (j i : Insn) → cond t (Some j) None ≡ Some i → j ≡ i
-in_range true j i e = cc
-in_range false j i e = cc
+in_range t j i h = grind (arith)
 
 -- a counter, and the instruction that has it
 with_counter : (c : ℕ) (x y t : Bool) (f : Counter → Insn) (i : Insn) → eqb c 0 ≡ x → eqb c 1 ≡ y
     → option_and_then (λ k. cond t (Some (f k)) None) (cond x (Some Lc0) (cond y (Some Lc1) None)) ≡ Some i → (k : Counter) × (c ≡ counter_number k) × (f k ≡ i)
-with_counter c true y t f i p q e = (Lc0, eqb-true c 0 p, in_range t (f Lc0) i e)
-with_counter c false true t f i p q e = (Lc1, eqb-true c 1 q, in_range t (f Lc1) i e)
-with_counter c false false t f i p q e = absurd (cc)
+with_counter c x y t f i h h2 h3 = grind (arith, eqb-true, in_range)
 
 statement_is : (s : Statement) (i : Insn) → insn_of s ≡ Some i → s ≡ statement_of i
-statement_is dmaend i e = ap statement_of (in_range true End i e)
-statement_is dmald i e = ap statement_of (in_range true Ld i e)
-statement_is dmast i e = ap statement_of (in_range true St i e)
-statement_is dmarmb i e = ap statement_of (in_range true Rmb i e)
-statement_is dmawmb i e = ap statement_of (in_range true Wmb i e)
-statement_is dmanop i e = ap statement_of (in_range true Nop i e)
-statement_is (dmasev n) i e = ap statement_of (in_range _ (Sev n) i e)
-statement_is (dmawfe n v) i e = ap statement_of (in_range _ (Wfe n v) i e)
-statement_is (dmamov r v) i e = ap statement_of (in_range true (Mov r v) i e)
-statement_is (dmalp c n) i e =
-    let h = with_counter c (eqb c 0) (eqb c 1) _ (λ k. Lp k n) i refl refl e in
-    ap (λ (m : ℕ). dmalp m n) h.1 ∙ ap statement_of h.2
-statement_is (dmalpend c b) i e =
-    let h = with_counter c (eqb c 0) (eqb c 1) _ (λ k. LpEnd k b) i refl refl e in
-    ap (λ (m : ℕ). dmalpend m b) h.1 ∙ ap statement_of h.2
+statement_is s i h = grind (arith, in_range)
 
 same_words : (i : Insn) (ws vs : List (List ℕ)) → HasRanges i → IsWritten ws (statement_of i) → IsWritten vs (statement_of i) → ws ≡ vs
-same_words (Lp c n) ws vs r h k = same_two ws vs (codes "DMALP") (counter_number c) n (counter_small c) (omega (arith, r.1)) h k
-same_words (LpEnd c b) ws vs r h k = same_two ws vs (codes "DMALPEND") (counter_number c) b (counter_small c) (omega arith) h k
-same_words (Sev e) ws vs r h k = same_one ws vs (codes "DMASEV") e [] (omega arith) h k
-same_words (Wfe e false) ws vs r h k = same_one ws vs (codes "DMAWFE") e [] (omega arith) h k
-same_words (Wfe e true) ws vs r h k = same_one ws vs (codes "DMAWFE") e (codes "invalid" ∷ []) (omega arith) h k
-same_words (Mov reg v) ws vs r h k = h.words_are ∙ sym k.words_are
-same_words _ ws vs r h k = h ∙ sym k
+same_words i ws vs h h2 h3 = grind (arith, same_two, counter_small, same_one)
 
 written_of : (line : List ℕ) (i : Insn) → Writes line i → IsWritten (words_of line) (statement_of i)
 written_of line i w = subst (IsWritten (words_of line)) (statement_is w.statement i w.insn_is) w.words_are
@@ -95,5 +71,4 @@ lines_are (line ∷ lines) is h r none =
 
 pub one_way : (text : List ℕ) (is : List Insn) → AllInRange is → ProgramText text is → list_any is_skipped (text_lines text) ≡ false
     → text ≡ flat_map (λ line. line ++ 10 ∷ []) (text_lines text) → text ≡ text_of is
-one_way text is r h none ended =
-    ended ∙ ap (flat_map (λ line. line ++ 10 ∷ [])) (lines_are (text_lines text) is h r none) ∙ sym (lines_ended is)
+one_way text is r h none ended = grind (arith, lines_are, lines_ended)

@@ -1,12 +1,12 @@
 -- The result of reading a text, line after line, compared with what its lines write.
-use Rattle.std.proofs.Common.{◌≡◌, ℕ, ◌+◌, ◌<◌, ◌≤◌, Bool, true, false, List, [], ◌∷◌, ◌++◌, ◌≢◌, length, refl, sym, ap, ◌∙◌, subst, Option, Some, None, Result}
+use Rattle.std.proofs.Common.{◌≡◌, ℕ, ◌+◌, ◌<◌, ◌≤◌, Bool, true, false, List, [], ◌∷◌, ◌++◌, ◌≢◌, length, refl, sym, ap, ◌∙◌, subst, Option, Result}
 use Rattle.std.proofs.Common.{Ok, Err, cond, leb, arith, append_assoc, append-nil, length-append, inl, inr, ◌⊎◌}
 use Rattle.std.specs.{Prelude.MatchResult, Prelude.MatchBool, Prelude.IfOk, Prelude.IfErr, Prelude.IsOk, Option.ok_or, List.list_any, Str.bytes_eq}
 use Rattle.std.proofs.lemmas.Bool.{leb-true, leb-false, le-leb, lt-leb, false≢true}
-use Rattle.dma_insn.specs.declared.assembler.AsmCause.TheVariants.{Mnemonic, Operand, Range}
+use Rattle.dma_insn.specs.declared.assembler.AsmCause.TheVariants.{Operand, Range}
 use Rattle.dma_insn.specs.declared.assembler.AsmFault.TheVariants.{Line, ProgramTooLong, NoMemory}
-use Rattle.dma_insn.specs.AssemblyText.{words_of, is_skipped, Statement, dmaend, dmald, dmast, dmarmb, dmawmb, dmanop, dmalp, dmalpend, dmasev, dmawfe, dmamov}
-use Rattle.dma_insn.specs.AssemblyText.{IsWritten, insn_of, names, first_of, Writes, IsCause, HasCause, WritesFirst, WriteAll, joined, most_program_bytes}
+use Rattle.dma_insn.specs.AssemblyText.{words_of, is_skipped, Statement}
+use Rattle.dma_insn.specs.AssemblyText.{IsWritten, names, first_of, Writes, IsCause, HasCause, WritesFirst, WriteAll, joined, most_program_bytes}
 use Rattle.dma_insn.specs.AssemblyText.{Assembles, IsLineAt, IsFirstFault}
 use Rattle.dma_insn.specs.LineReading.{at_line, with_insn, line_in, after_line, after_lines, assembled, ReadingReports, ResultIsOrNoMemory}
 use Rattle.dma_insn.specs.{Spelling.spelling, declared.insn.Insn.Insn, declared.assembler.AsmCause.AsmCause, declared.assembler.AsmFault.AsmFault}
@@ -14,21 +14,17 @@ use Rattle.dma_text.specs.{Lines.text_lines, Results.◌>>=◌}
 use Rattle.dma_insn.proofs.LineLaws.{IsReported, line_in_reported, line_in_written}
 
 not_operand : (o : Option Insn) → ok_or o Range ≡ Err Operand → ⊥
-not_operand None e = cc
-not_operand (Some i) e = cc
+not_operand o h = grind (arith)
 
 -- What the result of reading a line's words says about the line.
 cause_reported : (line : List ℕ) (cause : AsmCause) → line_in (words_of line) ≡ Err cause → IsReported (words_of line) (Err cause) → IsCause line cause
-cause_reported line Operand e reported = (reported, λ s written. not_operand (insn_of s) (sym (line_in_written (words_of line) s written) ∙ e))
-cause_reported line _ e reported = reported
+cause_reported line cause h h2 = grind (arith, not_operand, line_in_written)
 
 cause_of : (line : List ℕ) (cause : AsmCause) → line_in (words_of line) ≡ Err cause → IsCause line cause
 cause_of line cause e = cause_reported line cause e (subst (IsReported (words_of line)) e (line_in_reported (words_of line)))
 
 written_by : (line : List ℕ) (i : Insn) → is_skipped line ≡ false → line_in (words_of line) ≡ Ok i → Writes line i
-written_by line i taken e =
-    let reported : IsReported (words_of line) (Ok i) = subst (IsReported (words_of line)) e (line_in_reported (words_of line)) in
-    record { taken = taken; statement = reported.0; words_are = reported.1; insn_is = reported.2 }
+written_by line i taken e = grind (arith, line_in_reported)
 
 writes_read : (line : List ℕ) (i : Insn) → Writes line i → line_in (words_of line) ≡ Ok i
 writes_read line i h = line_in_written (words_of line) h.statement h.words_are ∙ ap (λ (o : Option Insn). ok_or o Range) h.insn_is
@@ -102,8 +98,7 @@ place_here n program line lines small = record {
 
 outcome_behind : (n : ℕ) (program next line : List ℕ) (lines : List (List ℕ)) (front : List Insn) (r : Result (List ℕ) AsmFault) → Adds program next line front
     → Outcome (n + 1) next lines r → Outcome n program (line ∷ lines) r
-outcome_behind n program next line lines front (Ok bytes) adds h =
-    record { insns = front ++ h.insns; writes = adds.writes lines h.insns h.writes; bytes_are = h.bytes_are ∙ adds.joins h.insns; fits = h.fits }
+outcome_behind n program next line lines front (Ok bytes) adds h = grind arith
 outcome_behind n program next line lines front (Err (Line m cause)) adds h =
     record {
       line = h.line;
@@ -145,8 +140,7 @@ outcome_room n program line lines i false e small w more =
 outcome_line : (n : ℕ) (program line : List ℕ) (lines : List (List ℕ)) (r : Result Insn AsmCause) → line_in (words_of line) ≡ r
     → length program ≤ most_program_bytes → is_skipped line ≡ false → Further (n + 1) lines
     → Outcome n program (line ∷ lines) ((at_line (n + 1) r >>= with_insn (n + 1) program) >>= λ next. after_lines (n + 1) next lines)
-outcome_line n program line lines (Err cause) e small taken more =
-    record { line = line; insns = []; place = place_here n program line lines small; cause_is = record { taken = taken; cause_is = cause_of line cause e } }
+outcome_line n program line lines (Err cause) e small taken more = grind (arith, place_here, cause_of)
 outcome_line n program line lines (Ok i) e small taken more =
     outcome_room n program line lines i (leb (length program + length (spelling i)) most_program_bytes) refl small (written_by line i taken e) more
 
@@ -160,9 +154,7 @@ outcome_by n program line lines false e small more = outcome_line n program line
 
 outcome : (lines : List (List ℕ)) (n : ℕ) (program : List ℕ) → length program ≤ most_program_bytes → Outcome n program lines (after_lines n program lines)
 unfolding after_line
-outcome [] n program small =
-    let same = length-append program [] in
-    record { insns = []; writes = refl; bytes_are = sym (append-nil program); fits = small }
+outcome [] n program small = grind (arith, length-append, append-nil)
 outcome (line ∷ lines) n program small =
     outcome_by n program line lines (is_skipped line) refl small (λ next fits. outcome lines (n + 1) next fits)
 
@@ -205,9 +197,7 @@ again_by false line lines after n program is e h more m at room =
     (more (program ++ spelling h.first) h.rest h.more m (omega arith) (omega arith) ∙ ap (λ (p : List ℕ). after_lines m p after) (sym all))
 
 again_before : (lines after : List (List ℕ)) (n : ℕ) (program : List ℕ) (is : List Insn) → WriteAll lines is → Again lines after n program is
-again_before [] after n program is h m at room =
-    let e : n ≡ m = omega arith in
-    rw (h, e) (ap (λ (p : List ℕ). after_lines m p after) (sym (append-nil program)))
+again_before [] after n program is h m at room = grind (arith, append-nil)
 again_before (line ∷ lines) after n program is h m at room =
     again_by (is_skipped line) line lines after n program is refl h (λ next js written. again_before lines after (n + 1) next js written) m at room
 
@@ -226,19 +216,10 @@ assembled_ok text bytes e =
     record { insns = w.insns; text_is = w.writes; bytes_are = w.bytes_are; fits = w.fits }
 
 is_there : (text line : List ℕ) (m : ℕ) (insns : List Insn) → Place 0 [] (text_lines text) line m insns → IsLineAt text line m insns
-is_there text line m insns p = record {
-  before = p.before;
-  after = p.after;
-  lines_are = p.lines_are;
-  number = let number = p.number in omega arith;
-  writes = p.writes;
-  fits = p.fits;
-}
+is_there text line m insns p = grind arith
 
 first_fault : (text : List ℕ) (fault : AsmFault) → FaultOf 0 [] (text_lines text) fault → IsFirstFault text fault
-first_fault text (Line m cause) h = (h.line, h.insns, is_there text h.line m h.insns h.place, h.cause_is)
-first_fault text (ProgramTooLong m) h = (h.line, h.insns, h.insn, is_there text h.line m h.insns h.place, h.writes, h.long)
-first_fault text NoMemory h = absurd h
+first_fault text fault h = grind (arith, is_there)
 
 assembled_err : (text : List ℕ) (fault : AsmFault) → assembled text ≡ Err fault → IsFirstFault text fault
 assembled_err text fault e =
@@ -251,8 +232,7 @@ some_bytes text (Err fault) e ok = absurd (false≢true ok)
 -- The clauses of `assemble`, by what reading the text gives.
 pub if_program : {X : Type 0} (view : X → List ℕ) (text : List ℕ) (r : Result X AsmFault) → ResultIsOrNoMemory view r (assembled text)
     → IfOk r (λ x. Assembles text (view x))
-if_program view text (Ok x) h = assembled_ok text (view x) h
-if_program view text (Err fault) h = tt
+if_program view text r h = grind (arith, assembled_ok)
 
 fault_by : (text : List ℕ) (fault : AsmFault) → ((assembled text ≡ Err fault) ⊎ ((fault ≡ NoMemory) × IsOk (assembled text))) → IsFirstFault text fault
 fault_by text fault (inl e) = assembled_err text fault e
@@ -260,16 +240,14 @@ fault_by text fault (inr h) = subst (IsFirstFault text) (sym h.0) (some_bytes te
 
 pub if_fault : {X : Type 0} (view : X → List ℕ) (text : List ℕ) (r : Result X AsmFault) → ResultIsOrNoMemory view r (assembled text)
     → IfErr r (λ fault. IsFirstFault text fault)
-if_fault view text (Ok x) h = tt
-if_fault view text (Err fault) h = fault_by text fault h
+if_fault view text r h = grind (arith, fault_by)
 
 ok_same : (r : Result (List ℕ) AsmFault) (a b : List ℕ) → r ≡ Ok a → r ≡ Ok b → a ≡ b
 ok_same r a b p q = cc
 
 only_by : (text bytes : List ℕ) (fault : AsmFault) → assembled text ≡ Ok bytes → ((assembled text ≡ Err fault) ⊎ ((fault ≡ NoMemory) × IsOk (assembled text)))
     → fault ≡ NoMemory
-only_by text bytes fault e (inl f) = absurd (let bad : Ok bytes ≡ Err fault = sym e ∙ f in cc)
-only_by text bytes fault e (inr h) = h.0
+only_by text bytes fault h h2 = grind (arith)
 
 pub if_only : {X : Type 0} (view : X → List ℕ) (text : List ℕ) (r : Result X AsmFault) → ResultIsOrNoMemory view r (assembled text) → (bytes : List ℕ)
     → Assembles text bytes → MatchResult r (λ x. view x ≡ bytes) (λ fault. fault ≡ NoMemory)
@@ -282,24 +260,12 @@ assembles_once text p q a b = ok_same (assembled text) p q (assembled_again text
 
 -- words of a statement begin with a name
 written_name : (words : List (List ℕ)) (s : Statement) → IsWritten words s → list_any (λ name. bytes_eq (first_of words) name) names ≡ true
-written_name words (dmalp c n) h = rw h.words_are refl
-written_name words (dmalpend c b) h = rw h.words_are refl
-written_name words (dmasev e) h = rw h.words_are refl
-written_name words (dmawfe e false) h = rw h.words_are refl
-written_name words (dmawfe e true) h = rw h.words_are refl
-written_name words (dmamov r v) h = rw h.words_are refl
-written_name words _ h = rw h refl
+written_name words s h = grind (arith)
 
 -- What a line with a cause is read as.
 cause_by : (line : List ℕ) (cause : AsmCause) (r : Result Insn AsmCause) → line_in (words_of line) ≡ r → IsReported (words_of line) r → IsCause line cause
     → r ≡ Err cause
-cause_by line Mnemonic (Err Mnemonic) e reported h = refl
-cause_by line Mnemonic (Err Operand) e reported h = absurd (false≢true (sym h ∙ reported))
-cause_by line Mnemonic _ e reported h = absurd (false≢true (sym h ∙ written_name (words_of line) reported.0 reported.1))
-cause_by line Operand (Err Mnemonic) e reported h = absurd (false≢true (sym reported ∙ h.0))
-cause_by line Operand (Err Operand) e reported h = refl
-cause_by line Operand _ e reported h = absurd (h.1 reported.0 reported.1)
-cause_by line Range r e reported h = sym e ∙ line_in_written (words_of line) h.0 h.1 ∙ ap (λ (o : Option Insn). ok_or o Range) h.2
+cause_by line cause r h h2 h3 = grind (arith, written_name, line_in_written)
 
 cause_read : (line : List ℕ) (cause : AsmCause) → IsCause line cause → line_in (words_of line) ≡ Err cause
 cause_read line cause h = cause_by line cause (line_in (words_of line)) refl (line_in_reported (words_of line)) h

@@ -1,13 +1,13 @@
 -- The text that instructions are written as is the text of these instructions.
 use Rattle.std.proofs.Common.{◌≡◌, ℕ, ◌+◌, ◌/◌, ◌%◌, ◌^◌, ◌<◌, ◌≤◌, Bool, true, false, List, [], ◌∷◌, ◌++◌, map, length, get_or, refl, sym, ap, ◌∙◌, subst}
-use Rattle.std.proofs.Common.{Some, ltb, eqb, arith, append_assoc, append-nil, inl, inr}
-use Rattle.std.specs.{Prelude.codes, Prelude.decimal, Prelude.flat_map, List.list_all, List.list_any, List.onto_first, Str.all_ascii_digits}
+use Rattle.std.proofs.Common.{Some, ltb, eqb, arith, append_assoc, append-nil}
+use Rattle.std.specs.{Prelude.codes, Prelude.decimal, Prelude.flat_map, List.list_all, List.list_any, Str.all_ascii_digits}
 use Rattle.std.specs.{Str.Parse.digits_value, Fmt.digit_glyph}
 use Rattle.std.specs.List.{All}
 use Rattle.std.proofs.lemmas.List.Splits.{slice_split_at, slice_split_none}
 use Rattle.std.proofs.lemmas.List.{Elements.All-head, Elements.All-tail, Elements.All-weaker, Sums.AllPass-from_list_all}
 use Rattle.std.proofs.lemmas.List.Folds.{list_all-append}
-use Rattle.std.proofs.lemmas.Bool.{and_parts, and_from, ltb-true, lt-ltb, le-ltb, ne_eqb, le-leb, cases_lt}
+use Rattle.std.proofs.lemmas.Bool.{and_from, ltb-true, lt-ltb, le-ltb, ne_eqb, le-leb, cases_lt}
 use Rattle.std.proofs.lemmas.Str.Parse.{IsNumeralModel, numerals_by_value, tells_all_ascii_digits}
 use Rattle.std.proofs.lemmas.Fmt.{decimal_by_steps, decimal_nonempty, first_decimal, decimal_digit, digits_decimal, digits_value-decimal}
 use Rattle.dma_insn.specs.declared.insn.Reg.TheVariants.{Sar, Ccr, Dar}
@@ -16,10 +16,10 @@ use Rattle.dma_insn.specs.AssemblyText.{words_of, is_skipped, IsDecimal, value_w
 use Rattle.dma_insn.specs.AssemblyText.{dmasev, dmawfe, dmamov, IsWritten, insn_of, Writes, WriteAll, ProgramText, joined, most_program_bytes, Assembles}
 use Rattle.dma_insn.specs.AssemblyText.{HasTwoNumbers, counter_of, register_word}
 use Rattle.dma_insn.specs.{declared.insn.Reg.Reg, declared.insn.Counter.Counter}
-use Rattle.dma_insn.specs.Disassembly.{counter_number, AllInRange, insn_text, text_of, Disassembles, DisassemblyAssembles}
-use Rattle.dma_insn.specs.{declared.insn.Counter.TheVariants.Lc0, declared.insn.Counter.TheVariants.Lc1, declared.insn.Insn.Insn, Spelling.HasRanges}
-use Rattle.dma_text.specs.{Digits.hex_digits, Lines.text_lines}
-use Rattle.dma_insn.proofs.ProgramLaws.{write_more, assembles_once}
+use Rattle.dma_insn.specs.Disassembly.{counter_number, AllInRange, insn_text, text_of, Disassembles}
+use Rattle.dma_insn.specs.{declared.insn.Insn.Insn, Spelling.HasRanges}
+use Rattle.dma_text.specs.{Lines.text_lines}
+use Rattle.dma_insn.proofs.ProgramLaws.{write_more}
 
 -- each byte is above k
 abbrev above : ℕ → List ℕ → Bool
@@ -29,9 +29,7 @@ above_append : (k : ℕ) (xs ys : List ℕ) → above k xs ≡ true → above k 
 above_append k xs ys p q = rw (list_all-append (λ b. ltb k b) xs ys, p, q) refl
 
 no_byte : (k : ℕ) (w : List ℕ) → above k w ≡ true → All (λ b. eqb b k ≡ false) w
-no_byte k w h =
-    All-weaker (λ b. ltb k b ≡ true) (λ b. eqb b k ≡ false) (λ b t. let above_b : k < b = ltb-true k b t in ne_eqb b k (λ z. omega arith)) w
-    (AllPass-from_list_all (λ b. ltb k b) w h)
+no_byte k w h = grind (arith, All-weaker, ltb-true, ne_eqb, AllPass-from_list_all)
 
 -- a word without spaces is one word
 words_plain : (w : List ℕ) → above 32 w ≡ true → words_of w ≡ w ∷ []
@@ -43,8 +41,7 @@ words_space w rest h = slice_split_at (λ b. eqb b 32) w 32 rest (no_byte 32 w h
 -- a line without a line feed is one line
 lines_feed : (line rest : List ℕ) → All (λ b. eqb b 10 ≡ false) line → text_lines (line ++ 10 ∷ rest) ≡ line ∷ text_lines rest
 lines_feed [] rest h = refl
-lines_feed (b ∷ line) rest h =
-    rw (All-head (λ b. eqb b 10 ≡ false) b line h) (ap (onto_first b) (lines_feed line rest (All-tail (λ b. eqb b 10 ≡ false) b line h)))
+lines_feed (b ∷ line) rest h = grind (arith, All-head, All-tail, lines_feed line rest (All-tail (λ b. eqb b 10 ≡ false) b line h))
 
 -- decimal digits are above
 above_decimal : (k n : ℕ) → k < 48 → n < 2 ^ 64 → above k (decimal n) ≡ true
@@ -58,50 +55,28 @@ pub own : IsNumeralModel (λ ds. all_ascii_digits ds ≡ true) (digits_value 10)
 own = numerals_by_value (λ ds. all_ascii_digits ds ≡ true) tells_all_ascii_digits
 
 decimal_zeros : (n : ℕ) → n < 2 ^ 64 → get_or (decimal n) 0 0 ≡ 48 → length (decimal n) ≡ 1
-decimal_zeros n small z =
-    elim (cases_lt 0 n) [
-      | inl some ↦ absurd (omega (arith, first_decimal n some small))
-      | inr none ↦ let zero_n : n ≡ 0 = omega arith in rw (zero_n, decimal_digit 0 (omega arith)) refl
-    ]
+decimal_zeros n small z = grind (arith, cases_lt, first_decimal, decimal_digit)
 
 -- a number is written in decimal
 decimal_is : (n : ℕ) → n < 2 ^ 64 → IsDecimal (decimal n) n
-decimal_is n small = record {
-  some = decimal_nonempty n small;
-  digits = digits_decimal own n small;
-  no_zeros = decimal_zeros n small;
-  value_is = sym (digits_value-decimal own n small);
-}
+decimal_is n small = grind (arith, decimal_nonempty, digits_decimal, own, decimal_zeros, digits_value-decimal)
 
 above_glyph : (k d : ℕ) → k < 48 → above k (digit_glyph true d ∷ []) ≡ true
-above_glyph k d low =
-    elim (cases_lt d 10) [
-      | inl small ↦ rw (lt-ltb d 10 small, lt-ltb k (48 + d) (omega arith)) refl
-      | inr big ↦ rw (le-ltb d 10 big, lt-ltb k (55 + d) (omega arith)) refl
-    ]
+above_glyph k d low = grind (arith, cases_lt, lt-ltb, le-ltb)
 
 above_digits : (k : ℕ) (places : List ℕ) (v : ℕ) → k < 48 → above k (map (λ place. digit_glyph true (v / place % 16)) places) ≡ true
 above_digits k [] v low = refl
-above_digits k (place ∷ places) v low =
-    above_append k (digit_glyph true (v / place % 16) ∷ []) (map (λ p. digit_glyph true (v / p % 16)) places) (above_glyph k (v / place % 16) low)
-    (above_digits k places v low)
+above_digits k (place ∷ places) v low = grind (arith, above_append, above_glyph, above_digits k places v low)
 
 above_value : (k v : ℕ) → k < 48 → above k (value_word v) ≡ true
-above_value k v low =
-    above_append k (codes "0x") (hex_digits v) (rw (lt-ltb k 48 (omega arith), lt-ltb k 120 (omega arith)) refl)
-    (above_digits k (0x10000000 ∷ 0x1000000 ∷ 0x100000 ∷ 0x10000 ∷ 0x1000 ∷ 0x100 ∷ 0x10 ∷ 0x1 ∷ []) v low)
+above_value k v low = grind (arith, above_append, lt-ltb, above_digits)
 
 -- two numbers behind a name
 two_above : (m n : ℕ) → m < 2 ^ 64 → n < 2 ^ 64 → above 10 (decimal m ++ 32 ∷ (decimal n ++ [])) ≡ true
-two_above m n hm hn =
-    above_append 10 (decimal m) (32 ∷ (decimal n ++ [])) (above_decimal 10 m (omega arith) hm)
-    (above_append 10 (decimal n) [] (above_decimal 10 n (omega arith) hn) refl)
+two_above m n hm hn = grind (arith, above_append, above_decimal)
 
 two_words_are : (m n : ℕ) → m < 2 ^ 64 → n < 2 ^ 64 → words_of (decimal m ++ 32 ∷ (decimal n ++ [])) ≡ decimal m ∷ decimal n ∷ []
-two_words_are m n hm hn =
-    words_space (decimal m) (decimal n ++ []) (above_decimal 32 m (omega arith) hm)
-    ∙ ap (λ (w : List ℕ). decimal m ∷ words_of w) (append-nil (decimal n))
-    ∙ ap (λ (ws : List (List ℕ)). decimal m ∷ ws) (words_plain (decimal n) (above_decimal 32 n (omega arith) hn))
+two_words_are m n hm hn = grind (arith, words_space, above_decimal, append-nil, words_plain)
 
 one_above : (n : ℕ) → n < 2 ^ 64 → above 10 (decimal n ++ []) ≡ true
 one_above n h = above_append 10 (decimal n) [] (above_decimal 10 n (omega arith) h) refl
@@ -123,8 +98,7 @@ value_words_are v = ap words_of (append-nil (value_word v)) ∙ words_plain (val
 
 -- a counter is a small number
 pub counter_small : (c : Counter) → counter_number c < 2 ^ 64
-counter_small Lc0 = omega arith
-counter_small Lc1 = omega arith
+counter_small c = grind (arith)
 
 -- the line of an instruction has no line feed
 insn_text_above : (i : Insn) → HasRanges i → above 10 (insn_text i) ≡ true
@@ -158,8 +132,7 @@ statement_of (Wfe e v) = dmawfe e v
 statement_of (Mov r v) = dmamov r v
 
 counter_of_number : (c : Counter) → counter_of (counter_number c) ≡ Some c
-counter_of_number Lc0 = refl
-counter_of_number Lc1 = refl
+counter_of_number c = grind (arith)
 
 registers_are : (r : Reg) (v : ℕ) → words_of (register_word r ++ (codes " " ++ (value_word v ++ []))) ≡ register_word r ∷ value_word v ∷ []
 registers_are r v = words_space (register_word r) (value_word v ++ []) (elim r as (λ q. above 32 (register_word q) ≡ true) [ Sar ↦ refl | Ccr ↦ refl | Dar ↦ refl ])
@@ -179,16 +152,10 @@ written (Mov r v) h = record { words_are = ap (λ (ws : List (List ℕ)). codes 
 written _ h = refl
 
 insn_of_statement : (i : Insn) → HasRanges i → insn_of (statement_of i) ≡ Some i
-insn_of_statement (Lp c n) h = rw (counter_of_number c, le-leb 1 n h.0, le-leb n 256 h.1) refl
-insn_of_statement (LpEnd c b) h = rw (counter_of_number c, le-leb b 255 (omega arith)) refl
-insn_of_statement (Sev e) h = rw (le-leb e 31 (omega arith)) refl
-insn_of_statement (Wfe e v) h = rw (le-leb e 31 (omega arith)) refl
-insn_of_statement _ h = refl
+insn_of_statement i h = grind (arith, counter_of_number, le-leb)
 
 not_skipped : (i : Insn) → is_skipped (insn_text i) ≡ false
-not_skipped (Wfe e true) = refl
-not_skipped (Wfe e false) = refl
-not_skipped _ = refl
+not_skipped i = grind (arith)
 
 -- The line of an instruction writes it.
 pub insn_text_writes : (i : Insn) → HasRanges i → Writes (insn_text i) i
@@ -205,9 +172,7 @@ text_of_written (i ∷ is) h =
 
 text_of_lines : (is : List Insn) → AllInRange is → text_lines (text_of is) ≡ map insn_text is
 text_of_lines [] h = refl
-text_of_lines (i ∷ is) h =
-    ap text_lines (append_assoc (insn_text i) (10 ∷ []) (text_of is)) ∙ lines_feed (insn_text i) (text_of is) (no_byte 10 (insn_text i) (insn_text_above i h.0))
-    ∙ ap (λ (ls : List (List ℕ)). insn_text i ∷ ls) (text_of_lines is h.1)
+text_of_lines (i ∷ is) h = grind (arith, append_assoc, lines_feed, no_byte, insn_text_above, text_of_lines is h.1)
 
 no_line_skipped : (is : List Insn) → AllInRange is → list_any is_skipped (map insn_text is) ≡ false
 no_line_skipped [] h = refl
@@ -233,9 +198,4 @@ pub disassembles : (bytes text : List ℕ) (is : List Insn) → AllInRange is �
 disassembles bytes text is h e t = subst (Disassembles bytes) (sym t) (disassembled bytes is h e)
 
 pub text_assembles : (bytes text : List ℕ) → length bytes ≤ most_program_bytes → Disassembles bytes text → Assembles text bytes
-text_assembles bytes text small d = record {
-  insns = d.insns;
-  text_is = d.program;
-  bytes_are = d.bytes_are;
-  fits = small;
-}
+text_assembles bytes text small d = grind arith

@@ -9,6 +9,4 @@ loop-offset-preserved c = record {
 }
 
 pub returns-in-Err : goal.returns-in-Err
-returns-in-Err c =
-    stops c.args.bytes.now c.loop-offset.offset c.in-Err.fault c.loop-offset-test.true c.loop-offset.invariant.front c.in-Err.ensures.exact
-    c.in-Err.ensures.refused c.in-Err.ensures.none
+returns-in-Err c = grind (arith, stops)

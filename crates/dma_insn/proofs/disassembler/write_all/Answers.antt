@@ -17,6 +17,4 @@ pub returns-clause-text : goal.returns-clause-text
 returns-clause-text c = written_all c.args.bytes.now _ c.loop-offset.offset (omega (arith, c.loop-offset-test.false)) c.loop-offset.invariant.front
 
 pub returns-in-Err-clause-stops : goal.returns-in-Err-clause-stops
-returns-in-Err-clause-stops c =
-    stops c.args.bytes.now c.loop-offset.offset c.in-Err.fault c.loop-offset-test.true c.loop-offset.invariant.front.front c.in-Err.ensures.exact
-    c.in-Err.ensures.refused c.in-Err.ensures.none
+returns-in-Err-clause-stops c = grind (arith, stops)

@@ -4,9 +4,7 @@ use Rattle.dma_insn.proofs.line.hex_value.Goals as goal
 
 -- one more digit after at most seven
 digit_fits : (value place : ℕ) → place < 8 → value < 16 ^ place → value * 16 + 16 ≤ 2 ^ 32
-digit_fits value place few small =
-    let most : 16 ^ place ≤ 16 ^ 7 = pow-le-pow_right {n = 16} (omega arith) {i = place} {j = 7} (omega arith) in
-    omega arith
+digit_fits value place few small = grind (arith, pow-le-pow_right)
 
 pub overflow_mul-value : goal.overflow_mul-value
 overflow_mul-value c =
