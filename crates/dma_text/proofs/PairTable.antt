@@ -1,8 +1,8 @@
 -- The table of the two hexadecimal digits of each byte, entry by entry.
-use Rattle.std.proofs.Common.{◌≡◌, ℕ, ◌+◌, ◌*◌, ◌/◌, ◌%◌, ◌<◌, List, map, true, eqb, refl, ap, ◌∙◌, sym, arith}
+use Rattle.std.proofs.Common.{◌≡◌, ℕ, ◌+◌, ◌*◌, ◌/◌, ◌%◌, ◌<◌, List, [], ◌∷◌, map, true, eqb, refl, ap, ◌∙◌, sym, arith}
 use Rattle.std.specs.{Prelude.slice_index_or, Prelude.if◌then◌else◌, Fmt.digit_glyph, List.range_with_len}
 use Rattle.std.proofs.lemmas.List.FromFn.{get_or-map-range_with_len}
-use Rattle.dma_text.specs.declared.digits.TheConstants.{PAIRS}
+use Rattle.dma_text.specs.{Digits.hex_pair, declared.digits.TheConstants.PAIRS}
 
 -- the digit at a place of the table
 digit_at : ℕ → ℕ
@@ -17,18 +17,12 @@ table = refl
 entry : (k : ℕ) → k < 512 → slice_index_or PAIRS k 0 ≡ digit_at k
 entry k h = sym (ap (λ (l : List ℕ). slice_index_or l k 0) table) ∙ get_or-map-range_with_len digit_at 0 512 k k 0 h (omega arith)
 
--- the first digit of a byte
-pub first_digit : (b : ℕ) → b < 256 → slice_index_or PAIRS (2 * b) 0 ≡ digit_glyph true (b / 16)
+-- the two digits of a byte
+pub pair_at : (b : ℕ) → b < 256 → slice_index_or PAIRS (2 * b) 0 ∷ slice_index_or PAIRS (2 * b + 1) 0 ∷ [] ≡ hex_pair b
 unfolding digit_at
-first_digit b h =
+pair_at b h =
     let even : 2 * b % 2 ≡ 0 = omega arith in
-    let half : 2 * b / 2 ≡ b = omega arith in
-    entry (2 * b) (omega arith) ∙ rw (even, half) refl
-
--- the second digit of a byte
-pub second_digit : (b : ℕ) → b < 256 → slice_index_or PAIRS (2 * b + 1) 0 ≡ digit_glyph true (b % 16)
-unfolding digit_at
-second_digit b h =
     let odd : (2 * b + 1) % 2 ≡ 1 = omega arith in
-    let half : (2 * b + 1) / 2 ≡ b = omega arith in
-    entry (2 * b + 1) (omega arith) ∙ rw (odd, half) refl
+    let half : 2 * b / 2 ≡ b = omega arith in
+    let low_half : (2 * b + 1) / 2 ≡ b = omega arith in
+    rw (entry (2 * b) (omega arith), entry (2 * b + 1) (omega arith), even, half, odd, low_half) refl

@@ -1,8 +1,7 @@
 -- The first line of a text.
-use Rattle.std.proofs.Common.{◌≡◌, ℕ, ◌+◌, ◌-◌, ◌<◌, List, [], ◌∷◌, length, take, drop, get_or, true, false, eqb, zero, suc, refl, sym, ap, ◌∙◌, Some, None}
-use Rattle.std.proofs.Common.{position, arith, add-one, nat_lt, inl, inr}
-use Rattle.std.proofs.lemmas.Bool.{lt-ltb, cases_lt}
-use Rattle.std.proofs.{lemmas.List.take_rest, lemmas.List.Quantifiers.position-Some, lemmas.List.Sums.fails_before_first}
+use Rattle.std.proofs.Common.{◌≡◌, ℕ, ◌+◌, ◌-◌, ◌<◌, ◌≤◌, List, [], ◌∷◌, length, take, drop, get_or, true, false, eqb, zero, suc, refl, sym, ap, Some, None}
+use Rattle.std.proofs.Common.{position, arith, add-one}
+use Rattle.std.proofs.{lemmas.Grind.common_steps, lemmas.List.take_rest, lemmas.List.Quantifiers.position-Some, lemmas.List.Sums.fails_before_first}
 use Rattle.std.specs.List.{position_or_len, onto_first}
 use Rattle.dma_text.specs.Lines.{text_lines}
 
@@ -22,13 +21,8 @@ lines_whole (b ∷ c ∷ rest) some none =
 -- a byte without a position doesn't occur
 pub nowhere : (b : ℕ) (bytes : List ℕ) → None ≡ position (λ x. eqb x b) bytes → (k d : ℕ) → k < length bytes → eqb (get_or bytes k d) b ≡ false
 nowhere b bytes none k d within =
-    let p = λ (x : ℕ). eqb x b in
-    elim (cases_lt (position_or_len p bytes) (length bytes)) [
-      | inl less ↦ let found : nat_lt (position_or_len p bytes) (length bytes) ≡ true = lt-ltb _ _ less in
-          let at : position p bytes ≡ Some (position_or_len p bytes) = rw found refl in
-          absurd (let bad : None ≡ Some (position_or_len p bytes) = none ∙ at in cc)
-      | inr more ↦ fails_before_first p bytes k d (omega arith)
-    ]
+    let all : length bytes ≤ position_or_len (λ x. eqb x b) bytes = grind (arith, common_steps) in
+    fails_before_first (λ x. eqb x b) bytes k d (omega (arith, all))
 
 pub lines_at : (text : List ℕ) (end : ℕ) → Some end ≡ position (λ x. eqb x 10) text
     → text_lines text ≡ take end text ∷ text_lines (take (length text - (end + 1)) (drop (end + 1) text))

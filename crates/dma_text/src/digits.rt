@@ -16,6 +16,7 @@ E0E1E2E3E4E5E6E7E8E9EAEBECEDEEEFF0F1F2F3F4F5F6F7F8F9FAFBFCFDFEFF";
 
 /// Returns the two hexadecimal digits of a byte, in capitals.
 #[inline(always)]
+#[tactic(auto, using(crate::proofs::PairTable::pair_at))]
 pub(crate) fn hex_pair(byte: u8) -> [u8; 2]
     ensures { result ≡ hex_pair byte }
 {
@@ -25,6 +26,7 @@ pub(crate) fn hex_pair(byte: u8) -> [u8; 2]
 
 /// Returns the eight hexadecimal digits of a number, in capitals.
 #[inline(always)]
+#[tactic(auto, using(crate::proofs::EightDigits::pairs_joined))]
 pub(crate) fn hex_digits(value: u32) -> [u8; 8]
     ensures { result ≡ hex_digits value }
 {
@@ -60,6 +62,7 @@ const DIGIT_VALUES: [u8; 256] = [
 ];
 
 /// Returns the value of a digit in a base of at most 36, in either case, or 36 for any other byte.
+#[tactic(auto, using(crate::proofs::DigitTable::looked_up))]
 pub fn digit_value(byte: u8) -> u8
     ensures { result ≡ digit_value byte }
 {

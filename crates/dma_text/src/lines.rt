@@ -5,6 +5,7 @@ ghost use Rattle.dma_text.specs.Lines.{is_all_spaces, is_blank, text_lines};
 use crate::bytes::position_of;
 
 /// Returns the first line of a text, without its line feed, and the rest of the text.
+#[tactic(auto, using(crate::proofs::TextLines::lines_at, crate::proofs::TextLines::lines_none))]
 pub fn split_line(text: &[u8]) -> (&[u8], &[u8])
     requires { 0 < length text.now }
     ensures first { text_lines text.now ≡ result.0.now ∷ text_lines result.1.now }

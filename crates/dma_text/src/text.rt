@@ -1,4 +1,5 @@
 //! Texts that can be appended to bytes: words, numbers in decimal and hexadecimal digits, and several texts in a row.
+#![tactic(auto, using(crate::proofs::Begun::begins_same, crate::proofs::Begun::begins_appended, crate::proofs::Begun::begins_more))]
 
 ghost use Rattle.std.specs.Prelude.{◌≡◌, ◌++◌, OnErr, OnOk, decimal};
 ghost use Rattle.dma_text.specs.Digits.{hex_digits, hex_pair, spaced_bytes};
@@ -65,6 +66,7 @@ impl Text for u64 {
     ghost text = { decimal };
 
     #[inline(always)]
+    #[tactic(auto, using(crate::proofs::Begun::begins_same, crate::proofs::Begun::begins_appended, std::proofs::lemmas::Fmt::decimal_digit))]
     fn push(&self, out: &mut Vec<u8>) -> Result<(), AllocError> {
         let number = *self;
         // Most numbers have one digit.
