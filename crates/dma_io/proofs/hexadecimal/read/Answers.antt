@@ -1,5 +1,4 @@
-use Rattle.std.proofs.lemmas.Grind.{common_steps}
-use Rattle.std.proofs.Common.{arith, ◌∙◌, ◌+◌, sym, ap, drop}
+use Rattle.std.proofs.Common.{◌∙◌, ◌+◌, sym, ap, drop}
 use Rattle.dma_io.specs.Hexadecimal.{read_from}
 use Rattle.dma_io.proofs.HexadecimalLemmas.{followed, read_step}
 use Rattle.dma_io.proofs.hexadecimal.read.Goals as goal
@@ -12,15 +11,3 @@ loop-at-preserved c =
     ∙ read_step c.args.notation c.loop-at.reading c.in-Some.next c.in-Some.number at text c.loop-at.bytes.items c.loop-at-test.true
     (sym c.next.ensures ∙ c.in-Some.is)
     ∙ c.loop-at.invariant
-
-pub loop-at-init : goal.loop-at-init
-loop-at-init c = grind (arith, common_steps)
-
-pub returns-in_default : goal.returns-in_default
-returns-in_default c = grind (arith, common_steps)
-
-pub returns-in_err-push_number : goal.returns-in_err-push_number
-returns-in_err-push_number c = grind (arith, common_steps)
-
-pub returns : goal.returns
-returns c = grind (arith, common_steps)

@@ -30,6 +30,3 @@ pub returns-in_err-push_row-clause-begins : goal.returns-in_err-push_row-clause-
 returns-in_err-push_row-clause-begins c =
     let (count, high, left, text) = c.loop-row.invariant.3 in
     begins_more _ _ _ (begins_appended _ _ _ text) c.push_row.ensures.begins
-
-pub returns-clause-begins : goal.returns-clause-begins
-returns-clause-begins c = let (count, high, left, text) = c.loop-row.invariant.3 in begins_appended _ _ _ text
