@@ -1,4 +1,5 @@
 -- How a call ends, and what may then be printed.
+use Rattle.std.proofs.Common.{arith}
 use Rattle.std.proofs.Common.{◌≡◌, ℕ, ◌<◌, ◌≤◌, inl, inr, List, ◌++◌, [], length, take, refl, ap, subst, sym, ◌∙◌, codes, Option, Some, None, IfSome, lit<, Result, Ok, Err}
 use Rattle.std.specs.Result.{result_unwrap_or}
 use Rattle.std.proofs.lemmas.Bool.{cases_lt}
@@ -34,8 +35,7 @@ pub answered : {E : Type 0} (known : Option (List ℕ)) (reader writer : Failure
     → before ≡ [] → MayAnswer (may input) answer before built → status ≡ result_unwrap_or answer 3 → sent ≡ built → Unfailed reader
     → Wrote writer old new sent status result → IfSome known (λ all. Ends reader writer (may_print_within may all) old new result)
 answered None reader writer may old new input before built sent answer status result e short none a exit same kept wrote = tt
-answered (Some all) reader writer may old new input before built sent answer status result e short none a exit same kept (inr failed) =
-    output_fault failed.1 failed.0
+answered (Some all) reader writer may old new input before built sent answer status result e short none a exit same kept (inr failed) = grind arith
 answered (Some all) reader writer may old new input before built sent (Ok s) status result e short none a exit same kept (inl wrote) =
     let within : may_print_within may all a.printed = subst (λ i. may_print_within may i a.printed) e (inr (short, a.allowed)) in
     let text = same ∙ a.answers.text ∙ ap (λ front. front ++ printed_text a.printed.groups) none in

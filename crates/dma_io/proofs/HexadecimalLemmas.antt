@@ -1,5 +1,6 @@
 -- Reading hexadecimal text from one byte to the next.
-use Rattle.std.proofs.Common.{◌≡◌, refl, sym, ◌∙◌, ap, ℕ, ◌+◌, ◌<◌, List, ◌∷◌, ◌++◌, drop, length, slice_index_or, Option, Some, Result, Ok, Err}
+use Rattle.std.proofs.Common.{arith}
+use Rattle.std.proofs.Common.{◌≡◌, sym, ◌∙◌, ℕ, ◌+◌, ◌<◌, List, ◌∷◌, ◌++◌, drop, length, slice_index_or, Option, Some, Result, Ok, Err}
 use Rattle.std.proofs.lemmas.List.{append_assoc, at_drop_more}
 use Rattle.dma_text.specs.Results.{◌>>=◌}
 use Rattle.dma_io.specs.Hexadecimal.{next_of, number_bytes, read_from}
@@ -11,13 +12,11 @@ followed bytes (Ok more) = Ok (bytes ++ more)
 followed bytes (Err at) = Err at
 
 followed_more : (bytes w : List ℕ) (r : Result (List ℕ) ℕ) → followed (bytes ++ w) r ≡ followed bytes (r >>= (λ more. Ok (w ++ more)))
-followed_more bytes w (Ok more) = ap (λ all. Ok all) (append_assoc bytes w more)
-followed_more bytes w (Err at) = refl
+followed_more bytes w r = grind (arith, append_assoc)
 
 read_next : (notation : Notation) (reading next : Reading) (w : Option ℕ) (at b : ℕ) (text bytes : List ℕ) → next_of notation reading b ≡ Some (next, w) →
     followed (bytes ++ number_bytes notation w) (read_from notation next (at + 1) text) ≡ followed bytes (read_from notation reading at (b ∷ text))
-read_next notation reading next w at b text bytes is =
-    rw (is) (followed_more bytes (number_bytes notation w) (read_from notation next (at + 1) text))
+read_next notation reading next w at b text bytes is = grind (arith, followed_more)
 
 -- the bytes so far and those of the rest, one byte later
 pub read_step : (notation : Notation) (reading next : Reading) (w : Option ℕ) (at : ℕ) (text bytes : List ℕ) → at < length text →

@@ -1,5 +1,5 @@
 -- Lines that are begun at the end of a list, and then ended or removed.
-use Rattle.std.proofs.Common.{◌≡◌, ℕ, ◌≤◌, List, ◌++◌, length, take, ap, sym, ◌∙◌, arith, take_all}
+use Rattle.std.proofs.Common.{◌≡◌, ℕ, List, ◌++◌, length, take, ap, ◌∙◌, arith, take_all}
 use Rattle.std.proofs.{Math.Seq.take-append_seam, lemmas.List.length-take, lemmas.List.take-take}
 use Rattle.dma_text.specs.Text.{Begins}
 
@@ -13,6 +13,4 @@ begins_appended old new more is = record { front_is = ap (take (length old)) is 
 
 -- one more part was appended
 pub begins_more : (old middle new : List ℕ) → Begins middle old → Begins new middle → Begins new old
-begins_more old middle new first more =
-    let within : length old ≤ length middle = omega (arith, ap length first.front_is, length-take (length old) middle) in
-    record { front_is = sym (take-take (length old) (length middle) new within) ∙ ap (take (length old)) more.front_is ∙ first.front_is }
+begins_more old middle new first more = grind (arith, length-take, take-take)

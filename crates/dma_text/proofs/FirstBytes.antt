@@ -1,5 +1,5 @@
 -- The first position of a byte: the one that a search finds is the one that the definition counts.
-use Rattle.std.proofs.Common.{◌≡◌, ℕ, true, false, List, length, Option, Some, None, refl, arith}
+use Rattle.std.proofs.Common.{◌≡◌, ℕ, false, List, length, Option, Some, None, refl, arith}
 use Rattle.std.specs.Prelude.{◌==◌, position, nat_lt}
 use Rattle.std.proofs.{lemmas.Bool.lt-ltb, lemmas.Bool.le-ltb, lemmas.Bool.false_from_ne_true, lemmas.List.Sums.position_or_len_is}
 use Rattle.memchr.specs.Find.{IsFirstByte, is_byte}
@@ -11,8 +11,4 @@ first_place byte xs None h =
     (λ l. absurd (omega arith)) in
     let beyond : nat_lt (length xs) (length xs) ≡ false = le-ltb _ _ (omega arith) in
     rw (counted, beyond) refl
-first_place byte xs (Some k) h =
-    let counted = position_or_len_is (λ b. b == byte) xs k 0 (omega (arith, h.0.high)) (λ j l. false_from_ne_true _ (h.0.before j (omega arith) l))
-    (λ l. h.1) in
-    let within : nat_lt k (length xs) ≡ true = lt-ltb _ _ h.0.high in
-    rw (counted, within) refl
+first_place byte xs (Some k) h = grind (arith, position_or_len_is, false_from_ne_true, lt-ltb)

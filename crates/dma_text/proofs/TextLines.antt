@@ -1,8 +1,8 @@
 -- The first line of a text.
-use Rattle.std.proofs.Common.{◌≡◌, ℕ, ◌+◌, ◌-◌, ◌<◌, ◌≤◌, List, [], ◌∷◌, length, take, drop, get_or, true, false, eqb, zero, suc, refl, sym, ap, Some, None}
+use Rattle.std.proofs.Common.{◌≡◌, ℕ, ◌+◌, ◌-◌, ◌<◌, List, [], ◌∷◌, length, take, drop, get_or, true, false, eqb, zero, suc, refl, sym, ap, Some, None}
 use Rattle.std.proofs.Common.{position, arith, add-one}
 use Rattle.std.proofs.{lemmas.Grind.common_steps, lemmas.List.take_rest, lemmas.List.Quantifiers.position-Some, lemmas.List.Sums.fails_before_first}
-use Rattle.std.specs.List.{position_or_len, onto_first}
+use Rattle.std.specs.List.{onto_first}
 use Rattle.dma_text.specs.Lines.{text_lines}
 
 lines_cut : (text : List ℕ) (end : ℕ) → end < length text → eqb (get_or text end 0) 10 ≡ true → ((k : ℕ) → k < end → eqb (get_or text k 0) 10 ≡ false)
@@ -20,9 +20,7 @@ lines_whole (b ∷ c ∷ rest) some none =
 
 -- a byte without a position doesn't occur
 pub nowhere : (b : ℕ) (bytes : List ℕ) → None ≡ position (λ x. eqb x b) bytes → (k d : ℕ) → k < length bytes → eqb (get_or bytes k d) b ≡ false
-nowhere b bytes none k d within =
-    let all : length bytes ≤ position_or_len (λ x. eqb x b) bytes = grind (arith, common_steps) in
-    fails_before_first (λ x. eqb x b) bytes k d (omega (arith, all))
+nowhere b bytes none k d within = grind (arith, common_steps, fails_before_first)
 
 pub lines_at : (text : List ℕ) (end : ℕ) → Some end ≡ position (λ x. eqb x 10) text
     → text_lines text ≡ take end text ∷ text_lines (take (length text - (end + 1)) (drop (end + 1) text))
