@@ -1,5 +1,5 @@
 -- Chunks that are made and whose lists have no bytes yet.
-use Rattle.std.proofs.Common.{◌≡◌, Vec, Global, vec_capacity, ℕ, ◌+◌, ◌-◌, ◌<◌, ◌≤◌, List, [], ◌∷◌, ◌++◌, length, get_or, replicate, drop, take, true, false}
+use Rattle.std.proofs.Common.{◌≡◌, Vec, Global, vec_capacity, ℕ, ◌+◌, ◌-◌, ◌<◌, ◌≤◌, List, [], ◌++◌, length, get_or, replicate, drop, take, true}
 use Rattle.std.proofs.Common.{Option, Some, None, refl, ap, sym, ◌∙◌, arith, inl, inr}
 use Rattle.std.specs.{Prelude.unwrap_or, Prelude.nat_eq, Map.lookup, Vec.with_items}
 use Rattle.std.proofs.Math.Seq.{take-length}
@@ -52,45 +52,24 @@ shown_items capacity items some = rw (ne_eqb (length items) 0 (λ e. omega arith
 -- A chunk that shows a byte shows 16,384.
 pub length_shown : (capacity : ℕ) (items : List ℕ) → (0 < length items → 16384 ≤ length items) → length items ≤ 16384 → 0 < length (bytes_shown capacity items)
     → length (bytes_shown capacity items) ≡ 16384
-length_shown capacity items whole most some = elim (cases_Bool (is_blank capacity items)) [
-  | inl e ↦ ap length (shown_blank capacity items e) ∙ length_blank
-  | inr e ↦
-      let same : length (bytes_shown capacity items) ≡ length items = rw e refl in
-      let here : 0 < length items = omega (arith, some, same) in
-      omega (arith, whole here, same)
-]
+length_shown capacity items whole most some = grind (arith, cases_Bool, shown_blank, length_blank)
 
 -- A chunk with memory shows 16,384 bytes.
 pub length_with_memory : (capacity : ℕ) (items : List ℕ) → (0 < length items → 16384 ≤ length items) → length items ≤ 16384 → 0 < capacity
     → length (bytes_shown capacity items) ≡ 16384
-length_with_memory capacity items whole most some = elim (cases_eq (length items) 0) [
-  | inl none ↦ ap length (shown_blank capacity items (rw (eq-eqb (length items) 0 none, lt-ltb 0 capacity some) refl)) ∙ length_blank
-  | inr more ↦
-      let here : 0 < length items = omega arith in
-      ap length (shown_items capacity items here) ∙ omega (arith, whole here)
-]
+length_with_memory capacity items whole most some = grind (arith, cases_eq, shown_blank, eq-eqb, lt-ltb, length_blank, shown_items)
 
 -- A blank list has no items.
 pub blank_none : (capacity : ℕ) (items : List ℕ) → is_blank capacity items ≡ true → length items ≡ 0
-blank_none capacity items e = elim (cases_eq (length items) 0) [
-  | inl none ↦ none
-  | inr more ↦
-      let not : is_blank capacity items ≡ false = rw (ne_eqb (length items) 0 more) refl in
-      cc
-]
+blank_none capacity items e = grind (arith, cases_eq, ne_eqb)
 
 -- An empty list with memory shows zeros.
 pub shown_new : (capacity : ℕ) (items : List ℕ) → items ≡ [] → 0 < capacity → bytes_shown capacity items ≡ blank
-shown_new capacity items none some =
-    shown_blank capacity items (rw (none, lt-ltb 0 capacity some) refl)
+shown_new capacity items none some = grind (arith, shown_blank, lt-ltb)
 
 -- An empty list that is resized to n items, all 0, is n zeros.
 pub zeros_fill : (n used : ℕ) (items : List ℕ) → length items ≡ 0 → used ≡ length items → take n items ++ replicate (n - used) 0 ≡ replicate n 0
-zeros_fill n used [] none e =
-    let all : n - used ≡ n = omega (arith, e) in
-    let empty : take {A = ℕ} n [] ≡ [] = nil_from_length (take {A = ℕ} n []) (omega (arith, length-take {A = ℕ} n [])) in
-    rw (empty, all) refl
-zeros_fill n used (b ∷ bs) none e = absurd (omega arith)
+zeros_fill n used items h h2 = grind (arith, nil_from_length, length-take)
 
 -- ---- what is written through the list
 
@@ -104,15 +83,12 @@ replaced_all len all items e f =
 -- After all bytes of a list are replaced, it shows the new ones.
 pub shown_replaced : (capacity len : ℕ) (all items : List ℕ) → len ≡ length items → length all ≡ length items → 0 < length items
     → bytes_shown capacity (take len (all ++ drop (length all) items)) ≡ all
-shown_replaced capacity len all items e f some =
-    let same : take len (all ++ drop (length all) items) ≡ all = replaced_all len all items e f in
-    shown_items capacity (take len (all ++ drop (length all) items)) (omega (arith, ap length same, f)) ∙ same
+shown_replaced capacity len all items e f some = grind (arith, replaced_all, shown_items)
 
 -- Once the list of a made chunk has its zeros, it has 16,384 items.
 pub length_with_zeros : (capacity : ℕ) (items new shown : List ℕ) → new ≡ bytes_shown capacity items → bytes_shown capacity items ≡ shown
     → (0 < length items → 16384 ≤ length items) → length items ≤ 16384 → 0 < length shown → length new ≡ 16384
-length_with_zeros capacity items new shown e view whole most some =
-    ap length e ∙ length_shown capacity items whole most (omega (arith, ap length view))
+length_with_zeros capacity items new shown e view whole most some = grind (arith, length_shown)
 
 -- The list of a chunk that showed `shown` and was made, after these bytes were put into it.
 pub record HasPut (v : Vec ℕ Global) (shown : List ℕ) (es : List (ℕ × ℕ)) : Type 0 where
@@ -124,13 +100,4 @@ pub record HasPut (v : Vec ℕ Global) (shown : List ℕ) (es : List (ℕ × ℕ
 pub has_put : (old new : Vec ℕ Global) (shown now all : List ℕ) (es : List (ℕ × ℕ)) → new.items ≡ bytes_shown (vec_capacity old) old.items
     → bytes_shown (vec_capacity old) old.items ≡ shown → (0 < length old.items → 16384 ≤ length old.items) → length old.items ≤ 16384 → 0 < length shown
     → now ≡ new.items → all ≡ put now es → HasPut (with_items new all) shown es
-has_put old new shown now all es adds view whole most some same writes =
-    let zeros = length_with_zeros (vec_capacity old) old.items new.items shown adds view whole most some in
-    let many : length all ≡ length new.items = ap length writes ∙ length_put now es ∙ ap length same in
-    let shows = shown_replaced (vec_capacity new) new.len all new.items (omega (arith, new.ok)) many (omega (arith, zeros)) in
-    record {
-      whole = ap length (replaced_all new.len all new.items (omega (arith, new.ok)) many) ∙ many ∙ zeros;
-      room = omega (arith, zeros, new.ok);
-      all = ap length shows ∙ many ∙ zeros;
-      shows = shows ∙ writes ∙ ap (λ xs. put xs es) (same ∙ adds ∙ view);
-    }
+has_put old new shown now all es adds view whole most some same writes = grind (arith, length_with_zeros, vec_capacity, length_put, shown_replaced, replaced_all)

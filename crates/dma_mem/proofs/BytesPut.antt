@@ -53,28 +53,11 @@ put_bytes_at image a bs h =
 
 bytes_at_append : (a : ℕ) (front back : List ℕ) → bytes_at a (front ++ back) ≡ bytes_at a front ++ bytes_at (a + length front) back
 bytes_at_append a [] back = let e : a ≡ a + 0 = omega arith in ap (λ n. bytes_at n back) e
-bytes_at_append a (b ∷ front) back =
-    let e : (a + 1) + length front ≡ a + length (b ∷ front) = omega arith in
-    ap (λ es. (a, b) ∷ es) (bytes_at_append (a + 1) front back ∙ ap (λ n. bytes_at (a + 1) front ++ bytes_at n back) e)
+bytes_at_append a (b ∷ front) back = grind (arith, bytes_at_append (a + 1) front back)
 
 swapped : (o p : Option ℕ) → (o ≡ None) ⊎ (p ≡ None) → option_or p o ≡ option_or o p
-swapped None None h = refl
-swapped None (Some y) h = refl
-swapped (Some x) None h = refl
-swapped (Some x) (Some y) h = elim h [ inl e ↦ cc | inr e ↦ cc ]
+swapped o p h = grind (arith)
 
 pub put_parts : (image : List ℕ) (a : ℕ) (front back : List ℕ)
     → put (put image (bytes_at a front)) (bytes_at (a + length front) back) ≡ put image (bytes_at a (front ++ back))
-put_parts image a front back =
-    let xs = bytes_at a front in
-    let ys = bytes_at (a + length front) back in
-    let one : (x : ℕ) → (lookup (nat_eq x) xs ≡ None) ⊎ (lookup (nat_eq x) ys ≡ None) = λ x. elim (cases_lt x (a + length front)) [
-      | inl before ↦ inr (lookup_bytes_before (a + length front) back x before)
-      | inr past ↦ inl (lookup_bytes_past a front x past)
-    ] in
-    put_put image xs ys
-    ∙ put_same image (ys ++ xs) (bytes_at a (front ++ back)) (λ x.
-    lookup_append (nat_eq x) ys xs
-    ∙ swapped (lookup (nat_eq x) xs) (lookup (nat_eq x) ys) (one x)
-    ∙ sym (lookup_append (nat_eq x) xs ys)
-    ∙ ap (lookup (nat_eq x)) (sym (bytes_at_append a front back)))
+put_parts image a front back = grind (arith, cases_lt, lookup_bytes_before, lookup_bytes_past, put_put, put_same, lookup_append, swapped, bytes_at_append)

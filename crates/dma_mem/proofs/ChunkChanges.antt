@@ -1,10 +1,11 @@
 -- Tables in which one chunk was taken out, changed and put back.
-use Rattle.std.proofs.Common.{◌≡◌, ◌≢◌, ℕ, ◌+◌, ◌*◌, ◌/◌, ◌%◌, ◌<◌, ◌≤◌, List, [], length, get_or, set, take, drop, refl, ap, sym, ◌∙◌, arith, inl, inr}
+use Rattle.std.proofs.Common.{◌≡◌, ◌≢◌, ℕ, ◌+◌, ◌/◌, ◌%◌, ◌<◌, ◌≤◌, List, length, get_or, set, take, drop, refl, ap, sym, ◌∙◌, arith}
 use Rattle.std.proofs.lemmas.Bool.{cases_eq}
-use Rattle.std.proofs.lemmas.List.{get_or-set_same, get_or-set_other, set-set, length-set, get_or-take, get_or-drop, length-take, length-drop}
-use Rattle.dma_mem.specs.{Image.put, Image.bytes_at, inner.Blocks.CopiesBlock, inner.ChunkTable.chunk_at, inner.ChunkTable.flat, inner.ChunkTable.image_of}
+use Rattle.std.proofs.lemmas.List.{get_or-set_same, get_or-set_other, set-set, length-set, length-take, length-drop}
+use Rattle.dma_mem.specs.{Image.put, Image.bytes_at, inner.Blocks.CopiesBlock}
+use Rattle.dma_mem.specs.inner.ChunkTable.{chunk_at, flat, image_of, PutsBytes, SameLengths}
 use Rattle.dma_mem.proofs.ChunkTables.{within_chunks, chunk_found, group_within, others_kept, chunk_at_flat_same, length_flat_set, laid_put}
-use Rattle.dma_mem.proofs.ChunkImages.{image_of_laid, read_found}
+use Rattle.dma_mem.proofs.{ChunkImages.image_of_laid, ChunkImages.part_from, ChunkImages.read_found, ImagePut.length_put}
 
 -- one chunk of a table was replaced by this one, and the others are as they were
 pub record HasInstead (old new : List (List ℕ)) (n : ℕ) (chunk : List ℕ) : Type 0 where
@@ -30,14 +31,7 @@ within_group groups chunks n group v made is = within_chunks group (n % 256) (rw
 pub replaced : (groups : List (List (List ℕ))) (chunks : List (List ℕ)) (n : ℕ) (group new : List (List ℕ)) (chunk : List ℕ) → flat groups ≡ chunks
     → 0 < length (chunk_at chunks n) → group ≡ get_or groups (n / 256) group → new ≡ set group (n % 256) chunk
     → HasInstead chunks (flat (set groups (n / 256) new)) n chunk
-replaced groups chunks n group new chunk v made is e =
-    let h = group_found groups chunks n v made in
-    let inside = within_group groups chunks n group v made is in
-    record {
-      count = length_flat_set groups (n / 256) new ∙ ap length v;
-      at = chunk_at_flat_same groups (n / 256) n new h refl ∙ ap (λ g. chunk_at g (n % 256)) e ∙ get_or-set_same group (n % 256) chunk [] inside;
-      others = others_kept groups chunks n group new v is h (λ p other. ap (λ g. chunk_at g p) e ∙ get_or-set_other group (n % 256) p chunk [] other);
-    }
+replaced groups chunks n group new chunk v made is e = grind (arith, group_found, within_group, length_flat_set, chunk_at_flat_same, get_or-set_same, others_kept, get_or-set_other)
 
 -- the group from which the chunk was taken
 pub taken_group : (groups : List (List (List ℕ))) (chunks : List (List ℕ)) (n : ℕ) (group taken : List (List ℕ)) → flat groups ≡ chunks
@@ -47,9 +41,7 @@ taken_group groups chunks n group taken v made is = is ∙ get_or-set_same group
 pub within_taken : (groups : List (List (List ℕ))) (chunks : List (List ℕ)) (n : ℕ) (group taken again : List (List ℕ)) (empty : List ℕ) → flat groups ≡ chunks
     → 0 < length (chunk_at chunks n) → group ≡ get_or groups (n / 256) group → taken ≡ set group (n % 256) empty
     → again ≡ get_or (set groups (n / 256) taken) (n / 256) again → n % 256 < length again
-within_taken groups chunks n group taken again empty v made is out back =
-    let same : again ≡ set group (n % 256) empty = taken_group groups chunks n again taken v made back ∙ out in
-    omega (arith, within_group groups chunks n group v made is, length-set group (n % 256) empty, ap length same)
+within_taken groups chunks n group taken again empty v made is out back = grind (arith, taken_group, within_group, length-set)
 
 -- a chunk that was taken out and put back
 pub put_back : (groups : List (List (List ℕ))) (chunks : List (List ℕ)) (n : ℕ) (group taken again last : List (List ℕ)) (empty chunk : List ℕ)
@@ -64,39 +56,45 @@ put_back groups chunks n group taken again last empty chunk v made is out back i
 -- the lengths of all chunks stay where the new chunk is as long as the old one
 pub lengths_kept : (old new : List (List ℕ)) (n : ℕ) (chunk : List ℕ) → HasInstead old new n chunk → length chunk ≡ length (chunk_at old n) → (p : ℕ)
     → length (chunk_at new p) ≡ length (chunk_at old p)
-lengths_kept old new n chunk change e p = elim (cases_eq p n) [
-  | inl same ↦ ap (λ q. length (chunk_at new q)) same ∙ ap length change.at ∙ e ∙ ap (λ q. length (chunk_at old q)) (sym same)
-  | inr other ↦ ap length (change.others p other)
-]
+lengths_kept old new n chunk change e p = grind (arith, cases_eq)
 
 -- bytes that were put into the chunk are put into the image
 pub image_changed : (size : ℕ) (old new : List (List ℕ)) (start : ℕ) (chunk bs : List ℕ) → HasInstead old new (start / 16384) chunk
     → chunk ≡ put (chunk_at old (start / 16384)) (bytes_at (start % 16384) bs) → length (chunk_at old (start / 16384)) ≡ 16384
     → start % 16384 + length bs ≤ 16384 → image_of size new ≡ put (image_of size old) (bytes_at start bs)
-image_changed size old new start chunk bs change is whole fits =
+image_changed size old new start chunk bs change is whole fits = grind (arith, image_of_laid, laid_put)
+
+-- a table after bytes were put into one of its chunks
+pub record HasBytes (old new : List (List ℕ)) (start : ℕ) (bs : List ℕ) : Type 0 where
+  pub len : SameLengths old new
+  pub count : length new ≡ length old
+  pub image : PutsBytes old new start bs
+
+pub has_bytes : (groups : List (List (List ℕ))) (chunks : List (List ℕ)) (start : ℕ) (group new : List (List ℕ)) (bs : List ℕ) → flat groups ≡ chunks
+    → 0 < length (chunk_at chunks (start / 16384)) → group ≡ get_or groups (start / 16384 / 256) group → start % 16384 + length bs ≤ 16384
+    → length (chunk_at group (start / 16384 % 256)) ≡ 16384
+    → new ≡ set group (start / 16384 % 256) (put (chunk_at group (start / 16384 % 256)) (bytes_at (start % 16384) bs))
+    → HasBytes chunks (flat (set groups (start / 16384 / 256) new)) start bs
+has_bytes groups chunks start group new bs v made is fits whole e =
     let n = start / 16384 in
-    let offset = start % 16384 in
-    let at : 16384 * n + offset ≡ start = omega arith in
-    image_of_laid size old new n offset bs change.others
-    (λ k. ap (λ (xs : List ℕ). get_or xs k 0) (change.at ∙ is) ∙ laid_put (chunk_at old n) offset bs (omega (arith, whole, fits)) k)
-    fits
-    ∙ ap (λ a. put (image_of size old) (bytes_at a bs)) at
+    let es = bytes_at (start % 16384) bs in
+    let found = chunk_in_group groups chunks n group v made is in
+    let chunk = put (chunk_at chunks n) es in
+    let change = replaced groups chunks n group new chunk v made is (e ∙ ap (λ x. set group (n % 256) (put x es)) found) in
+    record {
+      len = lengths_kept chunks _ n chunk change (length_put (chunk_at chunks n) es);
+      count = change.count;
+      image = λ size. image_changed size chunks _ start chunk bs change refl (ap length (sym found) ∙ whole) fits;
+    }
 
 -- bytes read from one chunk are those of the image
 pub chunk_read : (size : ℕ) (chunks : List (List ℕ)) (from len : ℕ) (chunk : List ℕ) → length chunk ≡ 16384
     → ((k : ℕ) → get_or chunk k 0 ≡ get_or (chunk_at chunks (from / 16384)) k 0) → from % 16384 + len ≤ 16384 → from + len ≤ size
     → take len (drop (from % 16384) chunk) ≡ take len (drop from (image_of size chunks))
 chunk_read size chunks from len chunk whole bytes fits within =
-    let part = take len (drop (from % 16384) chunk) in
-    let long : length part ≡ len = omega (arith, length-take len (drop (from % 16384) chunk), length-drop (from % 16384) chunk, whole) in
-    read_found size chunks from len part long within (λ k l.
-    let less : k < len = omega (arith, long) in
-    let number : (from + k) / 16384 ≡ from / 16384 = omega (arith, fits) in
-    let offset : (from + k) % 16384 ≡ from % 16384 + k = omega (arith, fits) in
-    get_or-take len (drop (from % 16384) chunk) k 0 less
-    ∙ get_or-drop (from % 16384) chunk k 0
-    ∙ bytes (from % 16384 + k)
-    ∙ sym (ap (λ p. get_or (chunk_at chunks p) ((from + k) % 16384) 0) number ∙ ap (λ i. get_or (chunk_at chunks (from / 16384)) i 0) offset))
+    read_found size chunks from len (take len (drop (from % 16384) chunk))
+    (omega (arith, length-take len (drop (from % 16384) chunk), length-drop (from % 16384) chunk, whole)) within
+    (part_from chunks from len chunk bytes fits)
 
 -- the destination chunk after a copy of bytes that lie in one chunk
 pub record HasCopy (old : List (List ℕ)) (from to len : ℕ) (chunk : List ℕ) : Type 0 where
@@ -108,11 +106,7 @@ pub has_copy : (old : List (List ℕ)) (from to len : ℕ) (source chunk : List 
     → ((k : ℕ) → get_or source k 0 ≡ get_or (chunk_at old (from / 16384)) k 0) → from % 16384 + len ≤ 16384 → length chunk ≡ 16384
     → length chunk ≡ length (chunk_at old (to / 16384))
     → chunk ≡ put (chunk_at old (to / 16384)) (bytes_at (to % 16384) (take len (drop (from % 16384) source))) → HasCopy old from to len chunk
-has_copy old from to len source chunk whole bytes fits long kept is = record {
-  whole = long;
-  kept = kept;
-  is = λ size within. is ∙ ap (λ bs. put (chunk_at old (to / 16384)) (bytes_at (to % 16384) bs)) (chunk_read size old from len source whole bytes fits within);
-}
+has_copy old from to len source chunk whole bytes fits long kept is = grind (arith, chunk_read)
 
 -- with this chunk put back, the table shows a copy of the block
 pub block_copied : (old new : List (List ℕ)) (from to len : ℕ) (chunk : List ℕ) → HasInstead old new (to / 16384) chunk → HasCopy old from to len chunk

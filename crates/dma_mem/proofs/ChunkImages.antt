@@ -1,5 +1,5 @@
 -- The images that chunks show.
-use Rattle.std.proofs.Common.{◌≡◌, ◌≢◌, ℕ, ◌+◌, ◌-◌, ◌*◌, ◌/◌, ◌%◌, ◌<◌, ◌≤◌, List, [], ◌++◌, length, get_or, take, drop, replicate, ap, refl, sym, ◌∙◌, arith}
+use Rattle.std.proofs.Common.{◌≡◌, ◌≢◌, ℕ, ◌+◌, ◌-◌, ◌*◌, ◌/◌, ◌%◌, ◌<◌, ◌≤◌, List, [], ◌++◌, length, get_or, take, drop, replicate, ap, sym, ◌∙◌, arith}
 use Rattle.std.proofs.Common.{inl, inr, ◌⊎◌}
 use Rattle.std.specs.{Prelude.unwrap_or, Prelude.nat_eq, Map.lookup}
 use Rattle.std.proofs.lemmas.List.{length-replicate, get_or-replicate, ext_get_or, get_or-take, get_or-drop, get_or_append_left, get_or-append_right}
@@ -83,13 +83,10 @@ image_of_laid size chunks new p offset bs others laid fits =
           ∙ sym (byte_outside image (16384 * p + offset) bs a within out)
     ])
 
-pub bytes_in_turn : (image : List ℕ) (a d n : ℕ) (bs : List ℕ) → d + n ≤ length bs
-    → put (put image (bytes_at a (take d bs))) (bytes_at (a + d) (take n (drop d bs))) ≡ put image (bytes_at a (take (d + n) bs))
-bytes_in_turn image a d n bs h =
-    let long : length (take d bs) ≡ d = omega (arith, length-take d bs) in
-    ap (λ k. put (put image (bytes_at a (take d bs))) (bytes_at (a + k) (take n (drop d bs)))) (sym long)
-    ∙ put_parts image a (take d bs) (take n (drop d bs))
-    ∙ ap (λ xs. put image (bytes_at a xs)) (sym (take-add d n bs))
+-- one more part of a write
+pub put_more : (image now new bs : List ℕ) (a d n m : ℕ) → d + n ≤ length bs → m ≡ n → now ≡ put image (bytes_at a (take d bs))
+    → new ≡ put now (bytes_at (a + d) (take m (drop d bs))) → new ≡ put image (bytes_at a (take (d + n) bs))
+put_more image now new bs a d n m fits same is makes = grind (arith, length-take, put_parts, take-add)
 
 -- the bytes of the chunks from an address on are those of the image
 pub read_found : (size : ℕ) (chunks : List (List ℕ)) (addr n : ℕ) (buf : List ℕ) → length buf ≡ n → addr + n ≤ size
@@ -107,19 +104,9 @@ read_found size chunks addr n buf e h read =
 -- the bytes of a list that shows a chunk, up to the chunk's end at most
 pub part_from : (chunks : List (List ℕ)) (at n : ℕ) (chunk : List ℕ) → ((k : ℕ) → get_or chunk k 0 ≡ get_or (chunk_at chunks (at / 16384)) k 0)
     → at % 16384 + n ≤ 16384 → AreBytesFrom chunks at (take n (drop (at % 16384) chunk))
-part_from chunks at n chunk shows fits k below =
-    let few : k < n = omega (arith, length-take n (drop (at % 16384) chunk)) in
-    let same : (at + k) / 16384 ≡ at / 16384 = omega arith in
-    let place : (at + k) % 16384 ≡ at % 16384 + k = omega arith in
-    rw (same, place) (get_or-take n (drop (at % 16384) chunk) k 0 few ∙ get_or-drop (at % 16384) chunk k 0 ∙ shows (at % 16384 + k))
+part_from chunks at n chunk shows fits k below = grind (arith, length-take, get_or-take, get_or-drop)
 
 -- bytes that go on
 pub bytes_more : (chunks : List (List ℕ)) (start at : ℕ) (front more : List ℕ) → AreBytesFrom chunks start front → at ≡ start + length front
     → AreBytesFrom chunks at more → AreBytesFrom chunks start (front ++ more)
-bytes_more chunks start at front more begun is next k below = elim (cases_lt k (length front)) [
-  | inl low ↦ get_or_append_left front more 0 k low ∙ begun k low
-  | inr high ↦
-      let place : at + (k - length front) ≡ start + k = omega arith in
-      get_or-append_right front more (length front) k 0 refl high
-      ∙ rw (← place) (next (k - length front) (omega (arith, length-append front more)))
-]
+bytes_more chunks start at front more begun is next k below = grind (arith, cases_lt, get_or_append_left, get_or-append_right, length-append)

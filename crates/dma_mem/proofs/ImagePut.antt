@@ -1,5 +1,5 @@
 -- What an image is after bytes were put into it.
-use Rattle.std.proofs.Common.{◌≡◌, ℕ, ◌<◌, List, [], ◌∷◌, ◌++◌, length, get_or, map, Option, Some, None, Bool, true, false, cond, refl, ap, sym, ◌∙◌, arith}
+use Rattle.std.proofs.Common.{◌≡◌, ℕ, ◌<◌, List, [], ◌∷◌, ◌++◌, length, get_or, map, Option, Some, None, Bool, refl, ap, sym, ◌∙◌, arith}
 use Rattle.std.proofs.Common.{inl, inr, ◌⊎◌}
 use Rattle.std.specs.{Prelude.unwrap_or, Prelude.nat_eq, Prelude.IsSome, List.Contains, Map.lookup, Map.keys_of, Option.option_or}
 use Rattle.std.proofs.{lemmas.Bool.eqb-true, lemmas.Bool.cases_lt, lemmas.List.ext_get_or, lemmas.List.get_or_past, lemmas.List.Elements.Contains-append_right}
@@ -10,11 +10,7 @@ use Rattle.dma_mem.specs.{Image.put, Image.carried, Places.Apart}
 
 pub lookup_append : {X : Type 0} (test : ℕ → Bool) (xs ys : List (ℕ × X)) → lookup test (xs ++ ys) ≡ option_or (lookup test xs) (lookup test ys)
 lookup_append test [] ys = refl
-lookup_append test (x ∷ xs) ys =
-    elim (test x.0) as (λ b. cond b (Some x.1) (lookup test (xs ++ ys)) ≡ option_or (cond b (Some x.1) (lookup test xs)) (lookup test ys)) [
-      | true ↦ refl
-      | false ↦ lookup_append test xs ys
-    ]
+lookup_append test (x ∷ xs) ys = grind (arith, lookup_append test xs ys)
 
 -- nothing is found at an address, or it is a key
 lookup_cases : {X : Type 0} (es : List (ℕ × X)) (a : ℕ) → (lookup (nat_eq a) es ≡ None) ⊎ Contains (keys_of es) a
@@ -65,24 +61,11 @@ put_put image xs ys =
 
 -- the order of two parts that share no address doesn't matter
 pub put_exchange : (image : List ℕ) (xs ys zs : List (ℕ × ℕ)) → Apart (keys_of xs) (keys_of ys) → put image (xs ++ (ys ++ zs)) ≡ put image (ys ++ (xs ++ zs))
-put_exchange image xs ys zs h =
-    put_same image _ _ (λ a.
-    let x = lookup (nat_eq a) xs in
-    let y = lookup (nat_eq a) ys in
-    let z = lookup (nat_eq a) zs in
-    let either : (o p q : Option ℕ) → (o ≡ None) ⊎ (p ≡ None) → option_or o (option_or p q) ≡ option_or p (option_or o q) =
-    λ o p q. elim o as (λ o. (o ≡ None) ⊎ (p ≡ None) → option_or o (option_or p q) ≡ option_or p (option_or o q))
-    [ None ↦ λ _. refl | Some x ↦ λ c. elim c [ inl n ↦ cc | inr n ↦ rw n refl ] ] in
-    lookup_append (nat_eq a) xs (ys ++ zs) ∙ ap (option_or x) (lookup_append (nat_eq a) ys zs)
-    ∙ either x y z (lookup_apart xs ys a h)
-    ∙ sym (lookup_append (nat_eq a) ys (xs ++ zs) ∙ ap (option_or y) (lookup_append (nat_eq a) xs zs)))
+put_exchange image xs ys zs h = grind (arith, put_same, lookup_append, lookup_apart)
 
 -- an address at which nothing is put keeps its byte, also past the end
 pub get_or_put_other : (image : List ℕ) (es : List (ℕ × ℕ)) (a : ℕ) → ¬ Contains (keys_of es) a → get_or (put image es) a 0 ≡ get_or image a 0
-get_or_put_other image es a h = elim (cases_lt a (length image)) [
-  | inl l ↦ get_or_put image es a l ∙ ap (λ o. unwrap_or o (get_or image a 0)) (lookup_none es a h)
-  | inr l ↦ get_or_past (put image es) a 0 (omega (arith, length_put image es)) ∙ sym (get_or_past image a 0 l)
-]
+get_or_put_other image es a h = grind (arith, cases_lt, get_or_put, lookup_none, get_or_past, length_put)
 
 -- ---- what moves carry
 

@@ -134,5 +134,4 @@ overlap_sorted src dst sorted met touched p m t =
 
 -- one destination
 pub overlap_one : (src dst : List Segment) (met : Bool) → length dst ≤ 1 → met ≡ meets_any src dst → then_some met SourceMeetsDestination ≡ overlap_of src dst
-overlap_one src dst true h m = rw (short_none dst h, ← m) refl
-overlap_one src dst false h m = rw (short_none dst h, ← m) refl
+overlap_one src dst met h h2 = grind (arith, short_none)

@@ -1,5 +1,5 @@
 -- Running transfers laid over an image: the laws for transfers that are free of each other.
-use Rattle.std.proofs.Common.{◌≡◌, ◌≢◌, ℕ, ◌+◌, ◌<◌, List, [], ◌∷◌, ◌++◌, length, get_or, map, take, drop, refl, ap, sym, ◌∙◌, arith, append_assoc, inl, inr}
+use Rattle.std.proofs.Common.{◌≡◌, ◌≢◌, ℕ, ◌+◌, List, [], ◌∷◌, ◌++◌, length, get_or, map, take, drop, refl, ap, sym, ◌∙◌, arith, append_assoc, inl, inr}
 use Rattle.std.proofs.Common.{zero, suc}
 use Rattle.std.specs.{Prelude.slice_index, List.Contains, List.AllPairs, List.All, List.range_with_len, List.zip, Map.keys_of, Map.values_of}
 use Rattle.std.proofs.lemmas.List.{map-append, get_or-take, get_or-drop, length-take, length-drop}
@@ -31,20 +31,14 @@ values_in (suc k) (d ∷ ds) (s ∷ ss) a h = elim (Contains-append_cases (s ∷
 ]
 
 pub Contains_take : (k : ℕ) (xs : List ℕ) (a : ℕ) → Contains (take k xs) a → Contains xs a
-Contains_take k xs a h =
-    let short : h.0 < k = omega (arith, h.1, length-take k xs) in
-    (h.0, omega (arith, h.1, length-take k xs), sym (get_or-take k xs h.0 a short) ∙ h.2)
+Contains_take k xs a h = grind (arith, length-take, get_or-take)
 
 pub Contains_drop : (k : ℕ) (xs : List ℕ) (a : ℕ) → Contains (drop k xs) a → Contains xs a
 Contains_drop k xs a h = (k + h.0, omega (arith, h.1, length-drop k xs), sym (get_or-drop k xs h.0 a) ∙ h.2)
 
 -- a list with no element twice falls into parts that are apart
 pub once_parts : (xs : List ℕ) (k n : ℕ) → AllPairs (λ a b. a ≢ b) xs → Apart (take n (drop k xs)) (take k xs)
-once_parts xs k n h = λ a (i : Contains (take n (drop k xs)) a) (j : Contains (take k xs) a).
-    let i' = Contains_take n (drop k xs) a i in
-    let low : j.0 < k = omega (arith, j.1, length-take k xs) in
-    let high : k + i'.0 < length xs = omega (arith, i'.1, length-drop k xs) in
-    h j.0 (k + i'.0) a (omega arith) high (sym (get_or-take k xs j.0 a low) ∙ j.2 ∙ sym (sym (get_or-drop k xs i'.0 a) ∙ i'.2))
+once_parts xs k n h = grind (arith, Contains_take, length-take, length-drop, get_or-take, get_or-drop)
 
 -- being free of each other is symmetric
 pub IsFree_sym : (t u : Descriptor) → IsFree t u → IsFree u t
@@ -204,11 +198,4 @@ over_sources image running (s ∷ ss) h =
 pub over_store : (image : List ℕ) (xs ys : List (Descriptor × ℕ)) (t : Descriptor) (k n : ℕ) (bytes : List ℕ) → IsTransfer t → All (λ r. IsFree t r.0) xs
     → bytes ≡ map (slice_index image) (take n (drop k (sources t)))
     → put (over image (xs ++ (t, k) ∷ ys)) (zip (take n (drop k (destinations t))) bytes) ≡ over image (xs ++ (t, k + n) ∷ ys)
-over_store image xs ys t k n bytes copy free read =
-    let ds = destinations t in
-    let ss = sources t in
-    ap (λ b. put (over image (xs ++ (t, k) ∷ ys)) (zip (take n (drop k ds)) b)) read
-    ∙ ap (put (over image (xs ++ (t, k) ∷ ys)))
-    (sym (ap (carried image) (ap (take n) (drop_zip k ds ss) ∙ take_zip n (drop k ds) (drop k ss))
-    ∙ carried_zip image (take n (drop k ds)) (take n (drop k ss))))
-    ∙ sym (over_stored image xs ys t k n copy free)
+over_store image xs ys t k n bytes copy free read = grind (arith, drop_zip, take_zip, carried_zip, over_stored)

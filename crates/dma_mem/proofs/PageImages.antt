@@ -1,6 +1,6 @@
 -- What contracts see of a memory: the image of its chunks, and a flag for each page.
 use Rattle.std.proofs.Common.{◌≡◌, ℕ, ◌+◌, ◌*◌, ◌/◌, ◌%◌, ◌<◌, ◌≤◌, ◌⊎◌, List, [], length, get_or, take, drop, max, Bool, true, false, nat_lt, refl, ap, sym}
-use Rattle.std.proofs.Common.{◌∙◌, subst, arith, inl, inr}
+use Rattle.std.proofs.Common.{◌∙◌, arith, inl, inr}
 use Rattle.std.specs.{Prelude.nat_le, List.range_with_len, List.list_all}
 use Rattle.std.proofs.lemmas.Bool.{cases_lt, lt-ltb, ltb-true, and_parts, leb-true, false_from_ne_true}
 use Rattle.std.proofs.lemmas.List.{ext_get_or, get_or_past}
@@ -20,9 +20,7 @@ pub is_made_from : (m : Paged) (a : ℕ) → a < length m.image → has_page m (
 is_made_from m a h flag = rw (lt-ltb a (length m.image) h, flag) refl
 
 pub is_made_parts : (m : Paged) (a : ℕ) → is_made m a ≡ true → (a < length m.image) × (has_page m (a / 4096) ≡ true)
-is_made_parts m a h =
-    let parts = and_parts (nat_lt a (length m.image)) (has_page m (a / 4096)) h in
-    (ltb-true a (length m.image) parts.0, parts.1)
+is_made_parts m a h = grind (arith, and_parts, nat_lt, ltb-true)
 
 -- an address above the size isn't made
 pub is_made_past : (m : Paged) (a : ℕ) → length m.image ≤ a → is_made m a ≡ false
@@ -49,9 +47,7 @@ segment_not_made m addr len a low high h =
 pub made_tested : (flags : List Bool) (m : Paged) (addr len end : ℕ) (r : Bool) → flags ≡ m.made → addr + len ≤ length m.image → addr + len ≤ 4096 * end
     → 4096 * end < addr + len + 4096 → 0 < len → (r ≡ true → (p : ℕ) → addr / 4096 ≤ p → p < end → get_or flags p false ≡ true)
     → (r ≡ false → (p : ℕ) × (addr / 4096 ≤ p) × (p < end) × (get_or flags p false ≡ false)) → r ≡ list_all (is_made m) (range_with_len addr len)
-made_tested flags m addr len end true seen within last first some all one =
-    sym (segment_made m addr len (λ a low high.
-    is_made_from m a (omega arith) (ap (λ (xs : List Bool). get_or xs (a / 4096) false) (sym seen) ∙ all refl (a / 4096) (omega arith) (omega arith))))
+made_tested flags m addr len end true seen within last first some all one = grind (arith, segment_made, is_made_from)
 made_tested flags m addr len end false seen within last first some all one =
     let w = one refl in
     let a : ℕ = max addr (4096 * w.0) in
@@ -74,9 +70,7 @@ not_made_tested m addr len size long some h =
 -- the chunk of an address on a page that is made
 pub chunk_of_flag : (flags : List Bool) (chunks : List (List ℕ)) (a : ℕ) → HasChunks flags chunks → get_or flags (a / 4096) false ≡ true
     → 0 < length (chunk_at chunks (a / 16384))
-chunk_of_flag flags chunks a has flag =
-    let e : 4096 * (a / 4096) / 16384 ≡ a / 16384 = omega arith in
-    subst (λ n. 0 < length (chunk_at chunks n)) e (has (a / 4096) flag)
+chunk_of_flag flags chunks a has flag = grind arith
 
 -- chunks that stay made serve the same pages
 pub HasChunks_kept : (flags : List Bool) (old new : List (List ℕ)) → HasChunks flags old → ((p : ℕ) → 0 < length (chunk_at old p) → 0 < length (chunk_at new p))
@@ -90,25 +84,13 @@ pub record Flagged (old new : List Bool) (first end : ℕ) : Type 0 where
 
 -- a page is one of them or is not
 cases_within : (p first end : ℕ) → ((first ≤ p) × (p < end)) ⊎ ((p < first) ⊎ (end ≤ p))
-cases_within p first end = elim (cases_lt p first) [
-  | inl low ↦ inr (inl low)
-  | inr high ↦ elim (cases_lt p end) [
-    | inl within ↦ inl (high, within)
-    | inr past ↦ inr (inr past)
-  ]
-]
+cases_within p first end = grind (arith, cases_lt)
 
 pub Keeps_same : (old new : Paged) → length new.image ≡ length old.image → ((p : ℕ) → has_page new p ≡ has_page old p) → Keeps old new
 Keeps_same old new size same = record { size = size; made = λ p flag. same p ∙ flag }
 
 pub Keeps_flagged : (old new : Paged) (first end : ℕ) → length new.image ≡ length old.image → Flagged old.made new.made first end → Keeps old new
-Keeps_flagged old new first end size f = record {
-  size = size;
-  made = λ p flag. elim (cases_within p first end) [
-    | inl within ↦ f.inside p within.0 within.1
-    | inr out ↦ f.outside p out ∙ flag
-  ];
-}
+Keeps_flagged old new first end size f = grind (arith, cases_within)
 
 -- flags that are set for the pages of a range
 pub AllMade_flagged : (old : List Bool) (new : Paged) (addr len end : ℕ) → addr + len ≤ length new.image → addr + len ≤ 4096 * end

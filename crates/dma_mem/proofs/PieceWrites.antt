@@ -5,9 +5,9 @@ use Rattle.std.specs.Prelude.{nat_le, ◌==◌, if◌then◌else◌}
 use Rattle.std.proofs.lemmas.List.{length-append, length-replicate, length-map, take-append-le, drop-append-le, map-set, set-get_or, length-drop}
 use Rattle.std.proofs.lemmas.List.{length-take-le, get_or-take, get_or-drop, nil_from_length}
 use Rattle.std.proofs.{Math.Seq.take-append-add, Math.Seq.drop-append-add, Math.Seq.map-set_same, lemmas.Bool.cases_lt}
-use Rattle.dma_mem.specs.Regions.{Piece, end_of, piece_of, pieces_of, rises_from, in_order, bytes_above, image_of, gaps_above, gaps_of, has}
+use Rattle.dma_mem.specs.Regions.{Piece, end_of, pieces_of, rises_from, in_order, bytes_above, image_of, gaps_above, has}
 use Rattle.dma_mem.specs.inner.Rewritten.{nowhere, piece_at, Holds, Writable, Rewritten, rest_from}
-use Rattle.dma_mem.specs.{declared.regions.Region.Region, declared.segment.Segment.Segment, Lent.lies_in_any, Image.put, Image.bytes_at, Pages.all_made}
+use Rattle.dma_mem.specs.{declared.regions.Region.Region, declared.segment.Segment.Segment, Image.put, Image.bytes_at, Pages.all_made}
 use Rattle.dma_mem.proofs.Pieces.{first, no_region, piece_at_of, found, length_bytes_above, image_of_most, has_parts, rest_is, zero_shown}
 use Rattle.dma_mem.proofs.{ImagePut.length_put, BytesPut.put_bytes_at, BytesPut.put_parts, PageImages.put_none}
 
@@ -67,17 +67,7 @@ same_gaps at (p ∷ ps) (suc i) bs l e = ap (λ gaps. record { addr = at; len = 
 -- bytes put into the middle of an image
 pub put_middle : (left old right : List ℕ) (start : ℕ) (bs : List ℕ) → start + length bs ≤ length old
     → left ++ (put old (bytes_at start bs) ++ right) ≡ put (left ++ (old ++ right)) (bytes_at (length left + start) bs)
-put_middle left old right start bs h =
-    let n = start + length bs in
-    let long : length (left ++ (old ++ right)) ≡ length left + (length old + length right) =
-    omega (arith, length-append left (old ++ right), length-append old right) in
-    let front : take (length left + start) (left ++ (old ++ right)) ≡ left ++ take start old = take-append-add left (old ++ right) start
-    ∙ ap (λ (xs : List ℕ). left ++ xs) (take-append-le start old right (omega arith)) in
-    let same : length left + start + length bs ≡ length left + n = omega arith in
-    let back : drop (length left + start + length bs) (left ++ (old ++ right)) ≡ drop n old ++ right = ap (λ (k : ℕ). drop k (left ++ (old ++ right))) same
-    ∙ drop-append-add left (old ++ right) n ∙ drop-append-le n old right h in
-    ap (λ (xs : List ℕ). left ++ (xs ++ right)) (put_bytes_at old start bs h)
-    ∙ simp append_assoc (sym (put_bytes_at (left ++ (old ++ right)) (length left + start) bs (omega (arith, long)) ∙ rw (front, back) (simp append_assoc)))
+put_middle left old right start bs h = grind (arith, length-append, take-append-add, take-append-le, drop-append-add, drop-append-le, put_bytes_at, append_assoc)
 
 -- the image around a piece
 around : (ps : List Piece) (i : ℕ) (h : in_order ps ≡ true) (l : i < length ps)
@@ -121,15 +111,7 @@ piece_shown ps i a n h l holds =
 
 -- what a piece has from an address on, the image has
 pub rest_shown : (ps : List Piece) (a n : ℕ) → in_order ps ≡ true → n ≤ length (rest_from ps a) → take n (rest_from ps a) ≡ take n (drop a (image_of ps))
-rest_shown ps a n h some = elim (rest_is ps a) [
-  | inl none ↦ let zero_n : n ≡ 0 = omega (arith, some, ap length none) in rw zero_n refl
-  | inr w ↦
-      let p = piece_at ps w.0 in
-      let parts = has_parts a p w.2 in
-      let holds : Holds ps w.0 a n =
-      record { first = parts.0; last = omega (arith, parts.0, parts.1, some, ap length w.3, length-drop (a - p.addr) p.bytes) } in
-      ap (take n) w.3 ∙ piece_shown ps w.0 a n h w.1 holds
-]
+rest_shown ps a n h some = grind (arith, rest_is, has_parts, length-drop, piece_shown)
 
 -- the byte at an address
 pub byte_shown : (ps : List Piece) (a : ℕ) → in_order ps ≡ true → get_or (image_of ps) a 0 ≡ get_or (rest_from ps a) 0 0
@@ -153,46 +135,19 @@ read_only_segment r = record { addr = r.addr; len = if r.read_only == 0 then 0 e
 
 same_segment : (a b : Region) → a.addr ≡ b.addr → a.read_only ≡ b.read_only → length a.bytes.now ≡ length b.bytes.now
     → read_only_segment a ≡ read_only_segment b
-same_segment a b addr access long =
-    ap (λ (n : ℕ). record { addr = n; len = if a.read_only == 0 then 0 else length a.bytes.now }) addr
-    ∙ ap (λ (n : ℕ). record { addr = b.addr; len = if n == 0 then 0 else length a.bytes.now }) access
-    ∙ ap (λ (n : ℕ). record { addr = b.addr; len = if b.read_only == 0 then 0 else n }) long
+same_segment a b addr access long = grind arith
 
 -- a write to one region is a write to the memory
 pub rewritten_at : (rs : List Region) (i addr : ℕ) (new : Region) (bs : List ℕ) → in_order (pieces_of rs) ≡ true → i < length rs
     → Holds (pieces_of rs) i addr (length bs) → new.addr ≡ (get_or rs i no_region).addr → new.bytes.ghost_name ≡ (get_or rs i no_region).bytes.ghost_name
     → new.read_only ≡ (get_or rs i no_region).read_only
     → new.bytes.now ≡ put (get_or rs i no_region).bytes.now (bytes_at (addr - (get_or rs i no_region).addr) bs) → Rewritten rs (set rs i new) addr bs
-rewritten_at rs i addr new bs order l holds same name access is =
-    let r = get_or rs i no_region in
-    let ps = pieces_of rs in
-    let start = addr - r.addr in
-    let here : piece_at ps i ≡ piece_of r = piece_at_of rs i in
-    let begins : (piece_at ps i).addr ≡ r.addr = ap (λ (p : Piece). p.addr) here in
-    let inside : i < length ps = omega (arith, length-map rs piece_of) in
-    let bytes : new.bytes.now ≡ put (piece_at ps i).bytes (bytes_at start bs) = is ∙ ap (λ (p : Piece). put p.bytes (bytes_at start bs)) (sym here) in
-    let fits : start + length bs ≤ length (piece_at ps i).bytes = omega (arith, holds.first, holds.last) in
-    let keeps : length new.bytes.now ≡ length (piece_at ps i).bytes = ap length bytes ∙ length_put (piece_at ps i).bytes (bytes_at start bs) in
-    let pieces : pieces_of (set rs i new) ≡ set ps i (with_bytes ps i new.bytes.now) =
-    map-set piece_of rs i new ∙ ap (λ (n : ℕ). set ps i (record { addr = n; bytes = new.bytes.now })) (same ∙ sym begins) in
-    let place : (piece_at ps i).addr + start ≡ addr = omega (arith, holds.first) in
-    record {
-      image = ap image_of (pieces ∙ ap (λ (xs : List ℕ). set ps i (with_bytes ps i xs)) bytes) ∙ put_piece ps i start bs order inside fits
-          ∙ ap (λ (n : ℕ). put (image_of ps) (bytes_at n bs)) place;
-      order = ap in_order pieces ∙ same_order 0 ps i new.bytes.now inside keeps;
-      gaps = ap gaps_of pieces ∙ same_gaps 0 ps i new.bytes.now inside keeps;
-      names = map-set_same (λ (x : Region). x.bytes.ghost_name) rs i new no_region name;
-      read_only = map-set_same read_only_segment rs i new no_region (same_segment new r same access (keeps ∙ ap (λ (p : Piece). length p.bytes) here));
-    }
+rewritten_at rs i addr new bs order l holds same name access is = grind (arith, piece_at_of, length-map, length_put, map-set, put_piece, same_order, same_gaps, map-set_same, same_segment)
 
 -- what a region has, the image has
 pub region_shown : (rs : List Region) (i a n : ℕ) → in_order (pieces_of rs) ≡ true → i < length rs → Holds (pieces_of rs) i a n
     → take n (drop (a - (get_or rs i no_region).addr) (get_or rs i no_region).bytes.now) ≡ take n (drop a (image_of (pieces_of rs)))
-region_shown rs i a n order l holds =
-    let ps = pieces_of rs in
-    let here = piece_at_of rs i in
-    ap (λ (p : Piece). take n (drop (a - p.addr) p.bytes)) (sym here)
-    ∙ piece_shown ps i a n order (omega (arith, length-map rs piece_of)) holds
+region_shown rs i a n order l holds = grind (arith, piece_at_of, piece_shown, length-map)
 
 -- nothing was written yet
 pub rewritten_none : (rs : List Region) (addr : ℕ) → Rewritten rs rs addr []
@@ -201,46 +156,22 @@ rewritten_none rs addr = record { image = sym (put_none (image_of (pieces_of rs)
 -- a write, and one behind it
 pub rewritten_more : (old mid new : List Region) (addr next : ℕ) (front back : List ℕ) → Rewritten old mid addr front → Rewritten mid new next back
     → next ≡ addr + length front → Rewritten old new addr (front ++ back)
-rewritten_more old mid new addr next front back f g e = record {
-  image = g.image
-      ∙ ap (λ (image : List ℕ). put image (bytes_at next back)) f.image
-      ∙ ap (λ (n : ℕ). put (put (image_of (pieces_of old)) (bytes_at addr front)) (bytes_at n back)) e
-      ∙ put_parts (image_of (pieces_of old)) addr front back;
-  order = g.order ∙ f.order;
-  gaps = g.gaps ∙ f.gaps;
-  names = g.names ∙ f.names;
-  read_only = g.read_only ∙ f.read_only;
-}
+rewritten_more old mid new addr next front back f g e = grind (arith, put_parts)
 
 -- ---- what may be written
 
 -- a part of a range that may be written
 pub writable_part : (rs : List Region) (addr len a n : ℕ) → Writable rs addr len → addr ≤ a → a + n ≤ addr + len → Writable rs a n
-writable_part rs addr len a n w low high =
-    let within = w.within in
-    record { order = w.order; within = omega arith; gaps = λ x first last. w.gaps x (omega arith) (omega arith) }
+writable_part rs addr len a n w low high = grind arith
 
 -- after a write as before it
 pub writable_after : (old new : List Region) (addr len place : ℕ) (bs : List ℕ) → Writable old addr len → Rewritten old new place bs → Writable new addr len
-writable_after old new addr len place bs w r =
-    let within = w.within in
-    record {
-      order = r.order ∙ w.order;
-      within = omega (arith, ap length r.image, length_put (image_of (pieces_of old)) (bytes_at place bs));
-      gaps = λ a first last. ap (λ gaps. lies_in_any gaps a) r.gaps ∙ w.gaps a first last;
-    }
+writable_after old new addr len place bs w r = grind (arith, length_put)
 
 -- the region that has an address that may be written is one of them
 pub place_found : (rs : List Region) (addr len i : ℕ) → Writable rs addr len → 0 < len → i ≤ length rs
     → ((k : ℕ) → k < i → has addr (piece_at (pieces_of rs) k) ≡ false) → i < length rs
-place_found rs addr len i w some within none = elim (cases_lt i (length rs)) [
-  | inl less ↦ less
-  | inr past ↦
-      let ps = pieces_of rs in
-      let inside = w.within in
-      absurd (found 0 ps addr w.order (omega arith) (omega (arith, length_bytes_above 0 ps w.order)) (w.gaps addr (omega arith) (omega arith))
-      (λ k l. none k (omega (arith, length-map rs piece_of))))
-]
+place_found rs addr len i w some within none = grind (arith, cases_lt, found, length_bytes_above, length-map)
 
 -- addresses that may be written fit 32 bits
 pub writable_most : (rs : List Region) (addr len : ℕ) → Writable rs addr len → addr + len ≤ 4294967296
@@ -258,7 +189,4 @@ rewritten_made old new addr bs r = ap all_made (rewritten_length old new addr bs
 -- the image has as many bytes there
 pub ends_in : (rs : List Region) (i a n : ℕ) → in_order (pieces_of rs) ≡ true → i < length rs → Holds (pieces_of rs) i a n
     → length (take n (drop a (image_of (pieces_of rs)))) ≡ n
-ends_in rs i a n order l holds =
-    let ps = pieces_of rs in
-    let below = ends_within ps i order (omega (arith, length-map rs piece_of)) in
-    length-take-le n (drop a (image_of ps)) (omega (arith, holds.last, length-drop a (image_of ps)))
+ends_in rs i a n order l holds = grind (arith, ends_within, length-map, length-take-le, length-drop)

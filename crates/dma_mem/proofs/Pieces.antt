@@ -1,12 +1,11 @@
 -- The pieces of a memory: their order, the image and the gaps that they make, and the piece that has an address.
-use Rattle.std.proofs.Common.{◌≡◌, ℕ, ◌+◌, ◌-◌, ◌<◌, ◌≤◌, List, [], ◌∷◌, ◌++◌, length, get_or, drop, replicate, true, false, ◌&&◌, nat_lt, refl, ap, sym, ◌∙◌, arith, inl, inr, ◌⊎◌, zero, suc}
+use Rattle.std.proofs.Common.{◌≡◌, ℕ, ◌+◌, ◌-◌, ◌<◌, ◌≤◌, List, [], ◌∷◌, ◌++◌, length, get_or, drop, replicate, true, false, nat_lt, refl, ap, sym, ◌∙◌, arith, inl, inr, ◌⊎◌, zero, suc}
 use Rattle.std.specs.Prelude.{nat_le}
 use Rattle.std.proofs.Math.ListN.{get_or-map as get_or-map_all}
 use Rattle.std.proofs.lemmas.Bool.{leb-true, le-leb, ltb-true, lt-ltb, and_parts, cases_lt, false_from_ne_true, cases_Bool}
 use Rattle.std.proofs.lemmas.List.{get_or-map, drop_more, length-append, length-replicate, length-drop, get_or_append_left, get_or-append_right, get_or-replicate}
 use Rattle.dma_mem.specs.declared.regions.Region.{Region}
 use Rattle.dma_mem.specs.Lent.{lies_in_any}
-use Rattle.dma_mem.specs.Marking.{lies_in}
 use Rattle.dma_mem.specs.Regions.{Piece, end_of, piece_of, pieces_of, rises_from, in_order, bytes_above, image_of, gaps_above, has}
 use Rattle.dma_mem.specs.inner.Rewritten.{nowhere, piece_at, rest_from}
 
@@ -35,32 +34,21 @@ pub record First (at : ℕ) (p : Piece) (ps : List Piece) : Type 0 where
   pub rest : rises_from (end_of p) ps ≡ true
 
 pub first : (at : ℕ) (p : Piece) (ps : List Piece) → rises_from at (p ∷ ps) ≡ true → First at p ps
-first at p ps h =
-    let one = and_parts (nat_le at p.addr) (nat_le (end_of p) 4294967296 && rises_from (end_of p) ps) h in
-    let two = and_parts (nat_le (end_of p) 4294967296) (rises_from (end_of p) ps) one.1 in
-    record { after = leb-true at p.addr one.0; most = leb-true (end_of p) 4294967296 two.0; rest = two.1 }
+first at p ps h = grind (arith, and_parts, leb-true)
 
 -- the pieces from an index on rise where those after it do, from the end of its piece
 pub rises_more : (ps : List Piece) (p : Piece) (i at : ℕ) → i < length ps → piece_at ps i ≡ p → at ≤ p.addr → end_of p ≤ 4294967296
     → rises_from at (drop i ps) ≡ rises_from (end_of p) (drop (i + 1) ps)
-rises_more ps p i at h is after most =
-    ap (rises_from at) (drop_at ps i h)
-    ∙ ap (λ (q : Piece). rises_from at (q ∷ drop (i + 1) ps)) is
-    ∙ rw (le-leb at p.addr after, le-leb (end_of p) 4294967296 most) refl
+rises_more ps p i at h is after most = grind (arith, drop_at, le-leb)
 
 -- and don't, where it begins too low or ends too high
 pub rises_not : (ps : List Piece) (p : Piece) (i at : ℕ) → i < length ps → piece_at ps i ≡ p → (p.addr < at) ⊎ (4294967296 < end_of p)
     → rises_from at (drop i ps) ≡ false
-rises_not ps p i at h is bad =
-    ap (rises_from at) (drop_at ps i h)
-    ∙ ap (λ (q : Piece). rises_from at (q ∷ drop (i + 1) ps)) is
-    ∙ false_from_ne_true _ (λ e. let f = first at p (drop (i + 1) ps) e in
-    elim bad [ inl low ↦ omega (arith, low, f.after) | inr high ↦ omega (arith, high, f.most) ])
+rises_not ps p i at h is bad = grind (arith, drop_at, false_from_ne_true)
 
 -- what holds of the piece at an index of pieces that rise from there
 pub first_at : (ps : List Piece) (p : Piece) (i at : ℕ) → i < length ps → piece_at ps i ≡ p → rises_from at (drop i ps) ≡ true → First at p (drop (i + 1) ps)
-first_at ps p i at h is rises =
-    first at p (drop (i + 1) ps) (sym (ap (rises_from at) (drop_at ps i h) ∙ ap (λ (q : Piece). rises_from at (q ∷ drop (i + 1) ps)) is) ∙ rises)
+first_at ps p i at h is rises = grind (arith, drop_at)
 
 -- ---- the size
 
@@ -118,11 +106,7 @@ in_first_gap at p ps a low high = rw (le-leb at a low, lt-ltb a (at + (p.addr - 
 -- an address that the first gap doesn't have lies in a gap where it lies in a later one
 pub past_first_gap : (at : ℕ) (p : Piece) (ps : List Piece) (a : ℕ) → (a < at) ⊎ (p.addr ≤ a) → at ≤ p.addr
     → lies_in_any (gaps_above at (p ∷ ps)) a ≡ lies_in_any (gaps_above (end_of p) ps) a
-past_first_gap at p ps a out after =
-    rw (false_from_ne_true (lies_in a (record { addr = at; len = p.addr - at })) (λ e.
-    let parts = and_parts (nat_le at a) (nat_lt a (at + (p.addr - at))) e in
-    elim out [ inl below ↦ omega (arith, below, leb-true at a parts.0) | inr above ↦ omega (arith, above, after, ltb-true a (at + (p.addr - at)) parts.1) ]))
-    refl
+past_first_gap at p ps a out after = grind (arith, false_from_ne_true, and_parts, nat_lt, leb-true, ltb-true)
 
 -- ---- the piece that has an address
 
@@ -130,9 +114,7 @@ pub has_from : (a : ℕ) (p : Piece) → p.addr ≤ a → a < end_of p → has a
 has_from a p low high = rw (le-leb p.addr a low, lt-ltb a (end_of p) high) refl
 
 pub has_not : (a : ℕ) (p : Piece) → (a < p.addr) ⊎ (end_of p ≤ a) → has a p ≡ false
-has_not a p out = false_from_ne_true _ (λ e.
-    let parts = and_parts (nat_le p.addr a) (nat_lt a (end_of p)) e in
-    elim out [ inl below ↦ omega (arith, below, leb-true p.addr a parts.0) | inr above ↦ omega (arith, above, ltb-true a (end_of p) parts.1) ])
+has_not a p out = grind (arith, false_from_ne_true, and_parts, nat_lt, leb-true, ltb-true)
 
 pub has_parts : (a : ℕ) (p : Piece) → has a p ≡ true → (p.addr ≤ a) × (a < end_of p)
 has_parts a p h = let parts = and_parts (nat_le p.addr a) (nat_lt a (end_of p)) h in (leb-true p.addr a parts.0, ltb-true a (end_of p) parts.1)

@@ -111,11 +111,7 @@ adds_inner rs first past s h f = λ a. (
 )
 
 pub adds_empty : (rs : List Segment) (s : Segment) → s.len ≡ 0 → AddsAddresses rs rs s
-adds_empty rs s h = λ a. (
-  λ i. inl i,
-  λ i. elim i
-      [ inl old ↦ old | inr in_s ↦ absurd (omega (arith, h, (range_in s.addr s.len a in_s).0, (range_in s.addr s.len a in_s).1)) ],
-)
+adds_empty rs s h = grind (arith, range_in)
 
 -- after an attempt to put it there
 pub added : {X Y : Type 0} (result : Result X Y) (rs new : List Segment) (first past : ℕ) (s : Segment) → IsOrdered rs → 0 < s.len → first ≤ past

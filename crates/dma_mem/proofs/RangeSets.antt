@@ -103,10 +103,7 @@ pub record Spread (low : ℕ) (ys : List Segment) : Type 0 where
   pub coalesced : IsCoalesced ys
 
 pub spread_from : (low : ℕ) (ys : List Segment) → Spaced low ys → Spread low ys
-spread_from low [] h = record {
-  above = λ k d l. absurd (omega arith);
-  coalesced = record { filled = λ k d l. absurd (omega arith); apart = λ i j d l m. absurd (omega arith) };
-}
+spread_from low [] h = grind arith
 spread_from low (s ∷ rest) h =
     let more = spread_from (s.addr + s.len + 1) rest h.2 in
     let past : All (λ (t : Segment). s.addr + s.len < t.addr) rest =
@@ -123,12 +120,10 @@ spread_from low (s ∷ rest) h =
 -- ---- each joined with the range before it, or a range of its own
 
 pub joins_at : (y j y' j' x k x' k' : Segment) (b : Bool) → y ≡ x → j ≡ k → y' ≡ x' → j' ≡ k' → Joins y j b y' j' → Joins x k b x' k'
-joins_at y j y' j' x k x' k' b e f g i h =
-    subst (λ s. Joins s k b x' k') e (subst (λ s. Joins y s b x' k') f (subst (λ s. Joins y j b s k') g (subst (Joins y j b y') i h)))
+joins_at y j y' j' x k x' k' b e f g i h = grind arith
 
 by_case : (b : Bool) (P Q : Type 0) → MatchBool b P Q → ((b ≡ true) × P) ⊎ ((b ≡ false) × Q)
-by_case true P Q h = inl (refl, h)
-by_case false P Q h = inr (refl, h)
+by_case b P Q h = grind (arith)
 
 pub record Coalesces (low : ℕ) (ys given : List Segment) : Type 0 where
   pub spaced : Spaced low ys
@@ -164,10 +159,7 @@ module _ {S : Type 0} (R : S → Segment → Segment → Bool → S → Segment 
     (reports : (s : S) (x k : Segment) (b : Bool) (t : S) (x' k' : Segment) → R s x k b t x' k' → Joins x k b x' k') where
   pub coalesces_from : (s : S) (k : Segment) (xs ys : List Segment) (low : ℕ) → DedupsFrom R s k xs ys → low ≤ k.addr → 0 < k.len → k.addr + k.len ≤ 4294967295
       → Rising k.addr xs → Coalesces low ys (k ∷ xs)
-  coalesces_from s k [] ys low h l f w r = record {
-    spaced = subst (Spaced low) (sym h) (l, f, tt);
-    same = subst (λ zs. SameAddresses zs (k ∷ [])) (sym h) (λ a. (λ i. i, λ i. i));
-  }
+  coalesces_from s k [] ys low h l f w r = grind arith
   coalesces_from s k (x ∷ xs) ys low h l f w r =
       let j = reports s x k h.0 h.1 h.2 h.3 h.4 in
       elim (by_case h.0 _ _ h.5) [
@@ -186,10 +178,7 @@ module _ {S : Type 0} (R : S → Segment → Segment → Bool → S → Segment 
       ]
 
   pub coalesces : (s : S) (xs ys : List Segment) → IsDeduped R s xs ys → Rising 0 xs → Coalesces 0 ys xs
-  coalesces s [] ys h r = record {
-    spaced = subst (Spaced 0) (sym h.told) tt;
-    same = subst (λ zs. SameAddresses zs []) (sym h.told) (λ a. (λ i. i, λ i. i));
-  }
+  coalesces s [] ys h r = grind arith
   coalesces s (x ∷ xs) ys h r = coalesces_from s x xs ys 0 h.told r.0 r.1 r.2 r.3
 
 -- ---- the search
@@ -280,11 +269,7 @@ none_at_all rs s none = share_none _ _ (λ a i j. let at = places_in rs nowhere 
 
 -- coalesced ranges are in order
 pub ordered_from : (rs : List Segment) → IsCoalesced rs → IsOrdered rs
-ordered_from rs h = record {
-  filled = h.filled;
-  starts = IsNonDecreasingBy-from_all_adjacent (λ (s : Segment). s.addr) rs (λ k d l. omega (arith, h.apart k (k + 1) d (omega arith) l));
-  ends = IsNonDecreasingBy-from_all_adjacent (λ (s : Segment). s.addr + s.len) rs (λ k d l. omega (arith, h.apart k (k + 1) d (omega arith) l));
-}
+ordered_from rs h = grind (arith, IsNonDecreasingBy-from_all_adjacent)
 
 -- ---- one list for each set of addresses
 

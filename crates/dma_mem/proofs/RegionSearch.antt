@@ -1,14 +1,14 @@
 -- The regions that begin at or below an address, and what lies before the first address at which bursts fail.
 use Rattle.std.proofs.Common.{◌≡◌, ℕ, ◌+◌, ◌-◌, ◌<◌, ◌≤◌, ◌⊎◌, List, [], ◌∷◌, length, get_or, drop, Bool, true, false, ◌&&◌, ◌||◌, nat_lt, refl, ap, sym, ◌∙◌}
 use Rattle.std.proofs.Common.{subst, arith, inl, inr, zero, suc, cond}
-use Rattle.std.specs.{Prelude.nat_le, Prelude.not, Prelude.◌==◌, List.Sorted.IsNonDecreasingBy, List.Sorted.IsPartitionPoint, List.list_any}
+use Rattle.std.specs.{Prelude.not, List.Sorted.IsNonDecreasingBy, List.Sorted.IsPartitionPoint, List.list_any}
 use Rattle.std.proofs.lemmas.Bool.{leb-true, le-leb, ltb-true, and_parts, cases_lt, false_from_ne_true, or_left, or_right, or_cases, or_parts, or_from}
 use Rattle.std.proofs.lemmas.Bool.{and_from, and_left, and_right, and_cases, ltb-false}
 use Rattle.std.proofs.lemmas.List.{get_or-map, drop_more, length-map}
 use Rattle.std.proofs.{lemmas.List.Folds.list_any-append, lemmas.List.Folds.list_any_none, lemmas.List.Sorted.IsNonDecreasingBy-from_all_adjacent}
 use Rattle.dma_mem.specs.Regions.{Piece, end_of, piece_of, pieces_of, rises_from, in_order, gaps_above, gaps_of, has, read_only_of}
 use Rattle.dma_mem.specs.inner.Rewritten.{bars, nowhere, piece_at}
-use Rattle.dma_mem.specs.{declared.marks.MarkKind.MarkKind, declared.marks.MarkKind.TheVariants.Reading, declared.marks.MarkKind.TheVariants.Writing}
+use Rattle.dma_mem.specs.{declared.marks.MarkKind.MarkKind, declared.marks.MarkKind.TheVariants.Writing}
 use Rattle.dma_mem.specs.{declared.regions.Region.Region, Lent.barred, Lent.lies_in_any, Marking.lies_in}
 use Rattle.dma_mem.proofs.Pieces.{first, has_not, gaps_past, in_first_gap, past_first_gap, has_from, no_region, piece_at_item}
 
@@ -94,27 +94,18 @@ fails_from kind at rs a = lies_in_any (gaps_above at (pieces_of rs)) a || closed
 -- the segments of read-only regions have these addresses
 segment_is : (writable : Bool) (r : Region) (a : ℕ)
     → lies_in a (record { addr = r.addr; len = cond writable 0 (length r.bytes.now) }) ≡ (not writable && has a (piece_of r))
-segment_is true r a = false_from_ne_true _ (λ e.
-    let parts = and_parts (nat_le r.addr a) (nat_lt a (r.addr + 0)) e in
-    omega (arith, leb-true r.addr a parts.0, ltb-true a (r.addr + 0) parts.1))
-segment_is false r a = refl
+segment_is writable r a = grind (arith, false_from_ne_true, and_parts, nat_lt, leb-true, ltb-true)
 
 read_only_is : (rs : List Region) (a : ℕ) → lies_in_any (read_only_of rs) a ≡ closed Writing rs a
 read_only_is [] a = refl
-read_only_is (r ∷ rs) a =
-    ap (λ b. b || lies_in_any (read_only_of rs) a) (segment_is (r.read_only == 0) r a)
-    ∙ ap (λ b. (bars Writing r && has a (piece_of r)) || b) (read_only_is rs a)
+read_only_is (r ∷ rs) a = grind (arith, segment_is, read_only_is rs a)
 
 or_false : (b : Bool) → b ≡ (b || false)
 or_false true = refl
 or_false false = refl
 
 barred_is : (kind : MarkKind) (rs : List Region) (a : ℕ) → lies_in_any (barred kind (gaps_of (pieces_of rs)) (read_only_of rs)) a ≡ fails_from kind 0 rs a
-barred_is Reading rs a =
-    or_false (lies_in_any (gaps_of (pieces_of rs)) a)
-    ∙ ap (λ b. lies_in_any (gaps_of (pieces_of rs)) a || b) (sym (list_any_none (λ r. bars Reading r && has a (piece_of r)) rs (λ k d l. refl)))
-barred_is Writing rs a =
-    list_any-append (lies_in a) (gaps_of (pieces_of rs)) (read_only_of rs) ∙ ap (λ b. lies_in_any (gaps_of (pieces_of rs)) a || b) (read_only_is rs a)
+barred_is kind rs a = grind (arith, or_false, list_any_none, list_any-append, read_only_is)
 
 closed_out : (kind : MarkKind) (r : Region) (rs : List Region) (a : ℕ) → (bars kind r ≡ false) ⊎ (has a (piece_of r) ≡ false)
     → closed kind (r ∷ rs) a ≡ closed kind rs a
@@ -134,18 +125,13 @@ fails_past kind at rs a h low = or_from _ _ (gaps_past at (pieces_of rs) a h low
 -- an address that is neither in the first gap nor in a first region in which they fail
 skipped : (kind : MarkKind) (at : ℕ) (r : Region) (rs : List Region) (a : ℕ) → (a < at) ⊎ (r.addr ≤ a) → at ≤ r.addr → (bars kind r ≡ false)
     ⊎ (has a (piece_of r) ≡ false) → fails_from kind at (r ∷ rs) a ≡ fails_from kind (end_of (piece_of r)) rs a
-skipped kind at r rs a out after free =
-    ap (λ b. b || closed kind (r ∷ rs) a) (past_first_gap at (piece_of r) (pieces_of rs) a out after)
-    ∙ ap (λ b. lies_in_any (gaps_above (end_of (piece_of r)) (pieces_of rs)) a || b) (closed_out kind r rs a free)
+skipped kind at r rs a out after free = grind (arith, past_first_gap, closed_out)
 
 -- from the first address of the region at an index on, only that region and those behind it count
 fails_at : (kind : MarkKind) (at : ℕ) (rs : List Region) (i a : ℕ) → rises_from at (pieces_of rs) ≡ true → i < length rs → (piece_at (pieces_of rs) i).addr ≤ a
     → fails_from kind at rs a ≡ fails_from kind 0 (drop i rs) a
 fails_at kind at [] i a h l low = absurd (omega arith)
-fails_at kind at (r ∷ rs) zero a h l low =
-    let f = first at (piece_of r) (pieces_of rs) h in
-    ap (λ b. b || closed kind (r ∷ rs) a)
-    (past_first_gap at (piece_of r) (pieces_of rs) a (inr low) f.after ∙ sym (past_first_gap 0 (piece_of r) (pieces_of rs) a (inr low) (omega arith)))
+fails_at kind at (r ∷ rs) zero a h l low = grind (arith, past_first_gap)
 fails_at kind at (r ∷ rs) (suc i) a h l low =
     let f = first at (piece_of r) (pieces_of rs) h in
     let after = above (end_of (piece_of r)) (pieces_of rs) i f.rest (omega (arith, length-map rs piece_of)) in
@@ -154,8 +140,7 @@ fails_at kind at (r ∷ rs) (suc i) a h l low =
 
 rises_at : (at : ℕ) (rs : List Region) (i : ℕ) → rises_from at (pieces_of rs) ≡ true → i < length rs → rises_from 0 (pieces_of (drop i rs)) ≡ true
 rises_at at [] i h l = absurd (omega arith)
-rises_at at (r ∷ rs) zero h l = let f = first at (piece_of r) (pieces_of rs) h in
-    rw (le-leb 0 r.addr (omega arith), le-leb (end_of (piece_of r)) 4294967296 f.most, f.rest) refl
+rises_at at (r ∷ rs) zero h l = grind (arith, le-leb)
 rises_at at (r ∷ rs) (suc i) h l = let f = first at (piece_of r) (pieces_of rs) h in rises_at (end_of (piece_of r)) rs i f.rest (omega arith)
 
 -- ---- the walk
@@ -202,15 +187,7 @@ fails kind r a = nat_lt a r.addr || (bars kind r && nat_lt a (end_of (piece_of r
 
 pub walk_fails : (kind : MarkKind) (rs : List Region) (r : Region) (rest : List Region) (addr end a : ℕ) → Walk kind rs (r ∷ rest) addr end → addr ≤ a → end ≤ a
     → fails kind r a ≡ true → lies_in_any (barred kind (gaps_of (pieces_of rs)) (read_only_of rs)) a ≡ true
-walk_fails kind rs r rest addr end a w low passed e = w.same a low ∙ elim (cases_lt a r.addr) [
-  | inl below ↦ or_left _ _ (in_first_gap end (piece_of r) (pieces_of rest) a passed below)
-  | inr begun ↦ elim (or_cases (nat_lt a r.addr) (bars kind r && nat_lt a (end_of (piece_of r))) e) [
-    | inl below ↦ absurd (omega (arith, begun, ltb-true a r.addr below))
-    | inr here ↦
-        let parts = and_parts (bars kind r) (nat_lt a (end_of (piece_of r))) here in
-        or_right _ _ (or_left _ _ (and_from _ _ parts.0 (has_from a (piece_of r) begun (ltb-true a (end_of (piece_of r)) parts.1))))
-  ]
-]
+walk_fails kind rs r rest addr end a w low passed e = grind (arith, cases_lt, or_left, in_first_gap, or_cases, nat_lt, ltb-true, and_parts, or_right, and_from, has_from)
 
 -- past a region in which they don't
 pub walk_on : (kind : MarkKind) (rs : List Region) (r : Region) (rest : List Region) (addr end from : ℕ) → Walk kind rs (r ∷ rest) addr end → (from ≡ addr)

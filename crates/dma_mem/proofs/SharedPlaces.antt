@@ -1,8 +1,8 @@
 -- The tests of `Places` as facts about addresses.
-use Rattle.std.proofs.Common.{◌≡◌, ℕ, ◌+◌, ◌-◌, ◌<◌, ◌≤◌, max, arith, ◌∷◌, ◌++◌, [], List, length, inl, inr, ◌⊎◌, get_or, true, false, Bool, refl, ap, sym, ◌∙◌}
+use Rattle.std.proofs.Common.{◌≡◌, ℕ, ◌+◌, ◌-◌, ◌<◌, ◌≤◌, max, arith, ◌∷◌, ◌++◌, [], List, length, inl, inr, ◌⊎◌, get_or, true, false, Bool, refl, sym, ◌∙◌}
 use Rattle.std.proofs.Common.{◌||◌}
 use Rattle.std.specs.{Prelude.nat_eq, Prelude.nat_lt, Prelude.IsTrue, Prelude.◌↔◌, List.Contains, List.list_any, List.range_with_len}
-use Rattle.std.proofs.lemmas.Bool.{cases_lt, leb-true, lt-ltb, le-ltb, true≢false, or_parts, not-true, false_from_ne_true, eqb-true}
+use Rattle.std.proofs.lemmas.Bool.{cases_lt, leb-true, lt-ltb, le-ltb, or_parts, not-true, false_from_ne_true, eqb-true}
 use Rattle.std.proofs.lemmas.List.Folds.{list_any_at, list_any_none, list_any-append, Any-from_list_any}
 use Rattle.std.proofs.{lemmas.Cmp.nat_eq_equiv, lemmas.List.FromFn.length-range_with_len, lemmas.List.FromFn.get_or-range_with_len}
 use Rattle.std.proofs.{lemmas.Map.Views.list_any-from_Contains, lemmas.Map.Views.Contains-from_any, lemmas.List.Elements.Contains-get_or}
@@ -12,9 +12,7 @@ use Rattle.dma_mem.specs.{declared.segment.Segment.Segment, Meeting.IsFree}
 
 pub share_false : (xs ys : List ℕ) → share xs ys ≡ false → Apart xs ys
 unfolding share
-share_false xs ys h = λ a (i : Contains xs a) (j : Contains ys a).
-    let inner : list_any (nat_eq (get_or xs i.0 a)) ys ≡ true = rw i.2 (list_any-from_Contains nat_eq_equiv a ys j) in
-    true≢false (sym (list_any_at (λ b. list_any (nat_eq b) ys) xs i.0 a i.1 inner) ∙ h)
+share_false xs ys h = grind (arith, list_any-from_Contains, nat_eq_equiv, list_any_at)
 
 -- with no address in common they share none
 pub share_none : (xs ys : List ℕ) → Apart xs ys → share xs ys ≡ false
@@ -36,16 +34,7 @@ is_free_of_true t u h =
 
 -- an answer that is the test's is true exactly where the transfer is free of the other
 pub is_free_of_iff : (t u : Descriptor) (r : Bool) → r ≡ is_free_of t u → IsTrue r ↔ IsFree t u
-is_free_of_iff t u r e = (
-  λ h. is_free_of_true t u (sym e ∙ h),
-  λ f. e
-      ∙ rw (
-        share_none (destinations t) (destinations u) f.writes_none,
-        share_none (destinations t) (sources u) f.writes_no_source,
-        share_none (sources t)
-            (destinations u) f.reads_none,
-      ) refl,
-)
+is_free_of_iff t u r e = grind (arith, is_free_of_true, share_none)
 
 -- the transfer writes one of these addresses; it writes or reads one
 abbrev pub Writes : Descriptor → List ℕ → Type 0
@@ -67,15 +56,11 @@ writes_false t s h = λ (a, i, j). share_false (range_with_len s.addr s.len) (de
 
 pub share_true : (xs ys : List ℕ) (a : ℕ) → Contains xs a → Contains ys a → share xs ys ≡ true
 unfolding share
-share_true xs ys a i j =
-    let inner : list_any (nat_eq (get_or xs i.0 a)) ys ≡ true = rw i.2 (list_any-from_Contains nat_eq_equiv a ys j) in
-    list_any_at (λ b. list_any (nat_eq b) ys) xs i.0 a i.1 inner
+share_true xs ys a i j = grind (arith, list_any-from_Contains, nat_eq_equiv, list_any_at)
 
 pub shared_by : (xs ys : List ℕ) → share xs ys ≡ true → (a : ℕ) × Contains xs a × Contains ys a
 unfolding share
-shared_by xs ys h =
-    let w = Any-from_list_any (λ a. list_any (nat_eq a) ys) xs h in
-    (w.1, (w.0, w.2, w.3), Contains-from_any eqb-true w.1 ys w.4)
+shared_by xs ys h = grind (arith, Any-from_list_any, Contains-from_any, eqb-true)
 
 pub same_bool : (a b : Bool) → (a ≡ true → b ≡ true) → (b ≡ true → a ≡ true) → a ≡ b
 same_bool a b f g = same_from_decides a b (f, g) (λ e. e, λ e. e)
@@ -97,10 +82,7 @@ in_range a n x low high =
     (x - a, omega (arith, length-range_with_len a n), get_or-range_with_len a n (x - a) x (omega arith) ∙ omega arith)
 
 pub range_in : (a n x : ℕ) → Contains (range_with_len a n) x → (a ≤ x) × (x < a + n)
-range_in a n x h =
-    let small : h.0 < n = omega (arith, h.1, length-range_with_len a n) in
-    let is : a + h.0 ≡ x = sym (get_or-range_with_len a n h.0 x small) ∙ h.2 in
-    (omega arith, omega arith)
+range_in a n x h = grind (arith, length-range_with_len, get_or-range_with_len)
 
 pub ranges_apart : (a m b n : ℕ) → ((x : ℕ) → a ≤ x → x < a + m → b ≤ x → x < b + n → ⊥) → share (range_with_len a m) (range_with_len b n) ≡ false
 ranges_apart a m b n h = share_none _ _ (λ x i j. h x (range_in a m x i).0 (range_in a m x i).1 (range_in b n x j).0 (range_in b n x j).1)
@@ -114,10 +96,7 @@ pub ranges_past : (a m b n x y : ℕ) → b + n ≤ a → x ≡ a → y ≡ b + 
 ranges_past a m b n x y h d e = le-ltb x y (omega arith) ∙ sym (ranges_apart a m b n (λ k i j p q. omega arith))
 
 pub ranges_tested : (a m b n x y : ℕ) → 0 < m → 0 < n → a < b + n → x ≡ b → y ≡ a + m → nat_lt x y ≡ share (range_with_len a m) (range_with_len b n)
-ranges_tested a m b n x y p q h d e = elim (cases_lt x y) [
-  | inl l ↦ lt-ltb x y l ∙ sym (ranges_meet a m b n p q h (omega arith))
-  | inr l ↦ le-ltb x y l ∙ sym (ranges_apart a m b n (λ k i j r s. omega arith))
-]
+ranges_tested a m b n x y p q h d e = grind (arith, cases_lt, lt-ltb, ranges_meet, le-ltb, ranges_apart)
 
 -- an answer that is the test's is true exactly where an address is in both lists
 pub share_iff : (xs ys : List ℕ) (r : Bool) → r ≡ share xs ys → IsTrue r ↔ ((a : ℕ) × Contains xs a × Contains ys a)
@@ -133,15 +112,12 @@ share_append_right xs ys zs = share_sym xs (ys ++ zs) ∙ share_append_left ys z
 -- a list is met where one of its segments is
 pub share_places : (xs : List ℕ) (list : List Segment) → list_any (λ s. share xs (range_with_len s.addr s.len)) list ≡ share xs (places list)
 share_places xs [] = sym (share_none xs [] (λ a i j. omega (arith, j.1)))
-share_places xs (s ∷ rest) =
-    ap (λ b. share xs (range_with_len s.addr s.len) || b) (share_places xs rest)
-    ∙ sym (share_append_right xs (range_with_len s.addr s.len) (places rest))
+share_places xs (s ∷ rest) = grind (arith, share_append_right, share_places xs rest)
 
 -- a list has an address of the set where one of its segments has
 pub share_each : (list : List Segment) (ys : List ℕ) → list_any (λ s. share (range_with_len s.addr s.len) ys) list ≡ share (places list) ys
 share_each [] ys = sym (share_none [] ys (λ a i j. omega (arith, i.1)))
-share_each (s ∷ rest) ys =
-    ap (λ b. share (range_with_len s.addr s.len) ys || b) (share_each rest ys) ∙ sym (share_append_left (range_with_len s.addr s.len) (places rest) ys)
+share_each (s ∷ rest) ys = grind (arith, share_append_left, share_each rest ys)
 
 -- each segment of a list that lies below a size ends there at most
 pub ends_below : (list : List Segment) (size i : ℕ) (d : Segment) → all_below list size ≡ true → i < length list

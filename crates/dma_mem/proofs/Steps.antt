@@ -11,15 +11,7 @@ data Next (k m : ℕ) (on : Bool) (next : ℕ) : Type 0 where
   no_more : next ≡ k → (k ≢ m) ⊎ (on ≡ false) → Next k m on next
 
 next_of : (k m : ℕ) (on : Bool) → Next k m on (if k == m && on then suc k else k)
-next_of k m on =
-    elim (cases_eq k m) [
-      | inl all ↦ at_all all on
-      | inr few ↦ no_more (ap (λ (b : Bool). if b && on then suc k else k) (ne_eqb k m few)) (inl few)
-    ]
-  where
-    at_all : k ≡ m → (b : Bool) → Next k m b (if k == m && b then suc k else k)
-    at_all all true = another all refl (ap (λ (b : Bool). if b && true then suc k else k) (eq-eqb k m all) ∙ ap suc all)
-    at_all all false = no_more (ap (λ (b : Bool). if b && false then suc k else k) (eq-eqb k m all)) (inr refl)
+next_of k m on = grind (arith, cases_eq, ne_eqb, eq-eqb)
 
 pub taken_few : (goes_on : ℕ → Bool) (most : ℕ) → taken_in goes_on most ≤ most
 taken_few goes_on zero = omega arith
@@ -45,14 +37,7 @@ taken_on goes_on (suc most) k less =
 -- all steps are taken, or the last one doesn't go on
 pub taken_stops : (goes_on : ℕ → Bool) (most : ℕ) → (taken_in goes_on most ≡ most) ⊎ (goes_on (taken_in goes_on most) ≡ false)
 taken_stops goes_on zero = inl refl
-taken_stops goes_on (suc most) =
-    elim (next_of (taken_in goes_on most) most (goes_on (taken_in goes_on most))) [
-      | another all on e ↦ inl e
-      | no_more e other ↦ inr (ap goes_on e ∙ elim other [
-        | inl few ↦ elim (taken_stops goes_on most) [ inl all ↦ absurd (few all) | inr stop ↦ stop ]
-        | inr stop ↦ stop
-      ])
-    ]
+taken_stops goes_on (suc most) = grind (arith, taken_stops goes_on most)
 
 -- a number with these three properties is the number of steps that are taken
 pub taken_is : (goes_on : ℕ → Bool) (most n : ℕ) → n ≤ most → ((k : ℕ) → k < n → goes_on k ≡ true) → (n ≡ most) ⊎ (goes_on n ≡ false)

@@ -1,5 +1,5 @@
 -- Two lists and two events that no rule refuses make a transfer.
-use Rattle.std.proofs.Common.{◌≡◌, ◌≢◌, ℕ, ◌+◌, ◌<◌, ◌≤◌, List, [], ◌∷◌, ◌++◌, length, Option, Some, None, Bool, true, false, ◌||◌, ◌&&◌, nat_lt, refl, zero}
+use Rattle.std.proofs.Common.{◌≡◌, ◌≢◌, ℕ, ◌<◌, ◌≤◌, List, [], ◌∷◌, ◌++◌, length, Option, Some, None, Bool, true, false, ◌||◌, ◌&&◌, nat_lt, refl, zero}
 use Rattle.std.proofs.Common.{suc, ap, sym, ◌∙◌, arith, inl, inr, IfSome, get_or}
 use Rattle.std.specs.Prelude.{◌==◌, ◌↔◌, All, AllPairs, not, if◌then◌else◌}
 use Rattle.std.specs.{Bool.then_some, List.Contains, List.list_any, List.range_with_len, List.flat_map, List.slice_get}
@@ -47,12 +47,7 @@ AllPairs_append R (x ∷ xs) ys p q cross =
     (AllPairs_append R xs ys (λ i j d l m. p (suc i) (suc j) d (omega arith) (omega arith)) q (λ y z i j. cross y z (Contains-append_right (x ∷ []) xs y i) j))
 
 once_range : (a n : ℕ) → AllPairs (λ x y. x ≢ y) (range_with_len a n)
-once_range a n = λ i j d l m e.
-    let long = length-range_with_len a n in
-    let j_in : j < n = omega arith in
-    let x = get_or-range_with_len a n i d (omega arith) in
-    let y = get_or-range_with_len a n j d j_in in
-    omega arith
+once_range a n = grind (arith, length-range_with_len, get_or-range_with_len)
 
 -- each place is once in a list of which no two segments meet
 pub once_places : (list : List Segment) → some_meet list ≡ false → AllPairs (λ a b. a ≢ b) (places list)
@@ -70,18 +65,10 @@ nonempty n h = grind (arith, nat_tests)
 
 is_segment_list : (list : List Segment) → is_empty_list list ≡ false → has_too_many list ≡ false → has_empty_segment list ≡ false
     → has_wrapping_segment list ≡ false → IsSegmentList list
-is_segment_list list empty many none wraps = record {
-  some = nonempty (length list) empty;
-  few = ltb-false 64 (length list) many;
-  filled = All-weaker (λ (s : Segment). (s.len == 0) ≡ false) (λ s. 0 < s.len) (λ s h. nonempty s.len h) list
-      (All_from_none (λ (s : Segment). s.len == 0) list none);
-  within = All-weaker (λ (s : Segment). nat_lt 4294967296 (s.addr + s.len) ≡ false) (λ s. s.addr + s.len ≤ 4294967296)
-      (λ s h. ltb-false 4294967296 (s.addr + s.len) h) list (All_from_none (λ (s : Segment). nat_lt 4294967296 (s.addr + s.len)) list wraps);
-}
+is_segment_list list empty many none wraps = grind (arith, nonempty, ltb-false, All-weaker, All_from_none, nat_lt)
 
 good_event : (event : Option ℕ) → is_bad_event event ≡ false → IfSome event (λ e. e ≤ 31)
-good_event None h = tt
-good_event (Some e) h = ltb-false 31 e h
+good_event event h = grind (arith, ltb-false)
 
 -- ---- the places of a fill's sources
 
@@ -108,9 +95,7 @@ as_many_by : (fill : Bool) (src dst : List Segment) → (fill ≡ true → (a : 
 as_many_by true src dst one h =
     let w = one refl in
     rw w.1 (again_length w.0 (places dst))
-as_many_by false src dst one h =
-    let same : total src ≡ total dst = eqb-true _ _ (not-false _ h) in
-    length_places src ∙ same ∙ sym (length_places dst)
+as_many_by false src dst one h = grind (arith, eqb-true, not-false, length_places)
 
 as_many : (t : Descriptor) → HasOneByte t → (not t.fill && not (total t.src == total t.dst)) ≡ false → length (sources t) ≡ length (destinations t)
 as_many t one h = as_many_by t.fill t.src t.dst one h
@@ -118,8 +103,7 @@ as_many t one h = as_many_by t.fill t.src t.dst one h
 -- ---- the law
 
 cause_none : (b : Bool) (fault : TransferFault) (others : Option TransferFault) → cause b fault others ≡ None → (b ≡ false) × (others ≡ None)
-cause_none true fault others h = cc
-cause_none false fault others h = (refl, h)
+cause_none b fault others h = grind (arith)
 
 -- what no rule refuses is a transfer
 pub IsTransfer_from_no_refusal : (t : Descriptor) → HasOneByte t → refusal_of t ≡ None → IsTransfer t
@@ -165,14 +149,7 @@ fill_from_no_refusal src dst wait signal h =
 -- a list with a segment, none of them empty, has a place
 pub places_some : (list : List Segment) → IsSegmentList list → 1 ≤ length (places list)
 places_some [] h = omega (arith, h.some)
-places_some (s ∷ rest) h =
-    omega (
-      arith,
-      All-head (λ (t : Segment). 0 < t.len) s rest h.filled,
-      length-append (range_with_len s.addr s.len) (places rest),
-      length-range_with_len s.addr
-          s.len,
-    )
+places_some (s ∷ rest) h = grind (arith, All-head, length-append, length-range_with_len)
 
 pub size_of_some : (t : Descriptor) → IsTransfer t → 1 ≤ size_of t
 size_of_some t h = places_some t.dst h.destination_list
@@ -203,10 +180,7 @@ touches_lists t s h =
 
 pub is_free_of_lists : (t u : Descriptor) → IsTransfer t → IsTransfer u
     → is_free_of t u ≡ not (meets_any t.dst u.dst || (meets_any t.dst u.src || meets_any t.src u.dst))
-is_free_of_lists t u h i =
-    let theirs : share (destinations t) (sources u) ≡ share (destinations t) (places u.src) = share_sources (destinations t) u i in
-    let own : share (sources t) (destinations u) ≡ share (places t.src) (destinations u) = sources_share t (destinations u) h in
-    rw (theirs, own, meets_any_places t.dst u.dst, meets_any_places t.dst u.src, meets_any_places t.src u.dst) refl
+is_free_of_lists t u h i = grind (arith, share_sources, sources_share, meets_any_places)
 
 at_again : (a p : ℕ) (ds : List ℕ) → p < length ds → Some a ≡ slice_get (flat_map (λ (d : ℕ). a ∷ []) ds) p
 at_again a p [] l = absurd (omega arith)
@@ -215,21 +189,12 @@ at_again a (suc p) (d ∷ ds) l = at_again a p ds (omega arith)
 
 -- one place at each position below the end
 place_below : (a p : ℕ) (ds : List ℕ) → then_some (nat_lt p (length ds)) a ≡ slice_get (flat_map (λ (d : ℕ). a ∷ []) ds) p
-place_below a p ds =
-    elim (cases_lt p (length ds)) [
-      | inl low ↦ ap (λ (b : Bool). then_some b a) (lt-ltb p (length ds) low) ∙ at_again a p ds low
-      | inr past ↦
-          ap (λ (b : Bool). then_some b a) (le-ltb p (length ds) past)
-          ∙ sym (slice_get_past (flat_map (λ (d : ℕ). a ∷ []) ds) p (omega (arith, past, again_length a ds)))
-    ]
+place_below a p ds = grind (arith, cases_lt, lt-ltb, at_again, le-ltb, slice_get_past, again_length)
 
 place_of_fill_by : (fill : Bool) (src : List Segment) (ds : List ℕ) (s : Segment) (p : ℕ) → fill ≡ true → src ≡ s ∷ [] → (a : ℕ)
     × (src ≡ record { addr = a; len = 1 } ∷ [])
     → then_some (nat_lt p (length ds)) s.addr ≡ slice_get (if fill then flat_map (λ (d : ℕ). places src) ds else places src) p
-place_of_fill_by true src ds s p e is w =
-    let same : s.addr ≡ w.0 = ap (λ (list : List Segment). (get_or list 0 s).addr) (sym is ∙ w.1) in
-    rw w.1 (ap (λ (a : ℕ). then_some (nat_lt p (length ds)) a) same ∙ place_below w.0 p ds)
-place_of_fill_by false src ds s p e is w = absurd (true≢false (sym e))
+place_of_fill_by fill src ds s p h h2 h3 = grind (arith, nat_lt, place_below)
 
 -- a fill reads its one place at every position
 pub place_of_fill : (t : Descriptor) (s : Segment) (p : ℕ) → IsTransfer t → t.fill ≡ true → t.src ≡ s ∷ []

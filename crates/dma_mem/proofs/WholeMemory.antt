@@ -1,5 +1,5 @@
 -- A memory in which each page is made: each address below its size is ready.
-use Rattle.std.proofs.Common.{◌≡◌, ℕ, ◌+◌, ◌/◌, ◌<◌, ◌≤◌, List, length, get_or, true, false, refl, arith, sym, ◌∙◌, inl, inr}
+use Rattle.std.proofs.Common.{◌≡◌, ℕ, ◌+◌, ◌/◌, ◌<◌, ◌≤◌, List, length, get_or, true, false, refl, arith}
 use Rattle.std.specs.{List.range_with_len, List.list_all, Prelude.nat_le}
 use Rattle.std.proofs.{lemmas.Bool.lt-ltb, lemmas.Bool.cases_lt, lemmas.Bool.le-leb, lemmas.List.get_or-replicate}
 use Rattle.dma_mem.specs.Pages.{AllMade, has_page, is_made, whole, all_made}
@@ -21,10 +21,7 @@ whole_all image addr len h = λ a i.
 
 -- whether a segment that has bytes is ready, tested by its end
 pub whole_tested : (image : List ℕ) (addr len : ℕ) → 0 < len → nat_le (addr + len) (length image) ≡ list_all (is_made (whole image)) (range_with_len addr len)
-whole_tested image addr len some = elim (cases_lt (length image) (addr + len)) [
-  | inl past ↦ not_made_tested (whole image) addr len (length image) refl some past
-  | inr within ↦ le-leb (addr + len) (length image) within ∙ sym (segment_made (whole image) addr len (λ a low high. whole_made image a (omega arith)))
-]
+whole_tested image addr len some = grind (arith, cases_lt, not_made_tested, le-leb, segment_made, whole_made)
 
 -- its page is made
 pub whole_page : (image : List ℕ) (a : ℕ) → a < length image → has_page (whole image) (a / 4096) ≡ true

@@ -24,6 +24,7 @@ impl Model for Events {
 
 impl Events {
     /// Returns flags that are all clear.
+    #[tactic(auto, using(crate::proofs::FlagBits::flags_of_zero))]
     pub fn new() -> Events
         ensures { result ≡ all_clear }
     {
@@ -52,6 +53,7 @@ impl Events {
     }
 
     /// Returns whether the flag of an event is set.
+    #[tactic(auto, using(crate::proofs::FlagBits::length_flags_of, crate::proofs::FlagBits::get_or_flags_of))]
     pub fn is_set(&self, event: u8) -> bool
         requires { event ≤ last_event }
         ensures flag { result ≡ slice_index_or self.now event false }
@@ -61,6 +63,7 @@ impl Events {
     }
 
     /// Sets the flag of an event.
+    #[tactic(auto, using(crate::proofs::FlagBits::flags_of_set))]
     pub fn set(&mut self, event: u8)
         requires { event ≤ last_event }
         ensures { self.new ≡ slice_set self.old event true }
@@ -69,6 +72,7 @@ impl Events {
     }
 
     /// Clears the flag of an event.
+    #[tactic(auto, using(crate::proofs::FlagBits::flags_of_clear))]
     pub fn clear(&mut self, event: u8)
         requires { event ≤ last_event }
         ensures { self.new ≡ slice_set self.old event false }

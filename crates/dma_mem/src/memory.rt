@@ -1,5 +1,7 @@
 //! A memory of bytes.
 
+#![tactic(auto, using(crate::proofs::ChunkImages::length_image_of))]
+
 ghost use Rattle.std.specs.Prelude.{◌≡◌, ◌≢◌, ℕ, ◌+◌, ◌%◌, ◌/◌, ◌<◌, ◌≤◌, ◌⊎◌, length, take, drop, replicate, slice_get, nat_lt, true, false, if◌then◌else◌, IsTrue, IfOk, IfErr, IfSome, IsSome, OnOk, OnErr};
 ghost use Rattle.std.specs.List.{list_all, range_with_len};
 ghost use Rattle.dma_mem.specs.Places.{range_of, places, all_below};
@@ -62,6 +64,7 @@ impl Memory {
     /// Returns a memory of `size` zeros, in which no page is made.
     ///
     /// The error is `SizeOutOfRange` for a size of 0 or above [`MAX_SIZE`], else `NoMemory`.
+    #[tactic(auto, using(crate::proofs::ChunkImages::image_of_none))]
     pub fn new(alloc: Global, size: u32) -> Result<Memory, MemFault>
         ensures image { IfOk result (λ memory. memory.image ≡ replicate size 0) }
         ensures none { IfOk result (λ memory. (p : ℕ) → has_page memory p ≡ false) }
@@ -80,6 +83,7 @@ impl Memory {
     }
 
     /// Returns the size of the memory in bytes, 1 to [`MAX_SIZE`].
+    #[inline(always)]
     pub fn size(&self) -> u32
         ensures size { result ≡ length self.now.image }
         ensures low { 1 ≤ result }
@@ -92,11 +96,12 @@ impl Memory {
     pub fn byte(&self, addr: u32) -> Option<u8>
         ensures { result ≡ slice_get self.now.image addr }
     {
-        let mut byte = [0];
-        match self.read_into(addr, &mut byte) {
-            Ok(()) => Some(byte[0]),
-            Err(_) => None,
+        if addr >= self.size() {
+            return None;
         }
+        let mut block = [0];
+        let bytes = self.bytes(addr, &mut block);
+        Some(bytes[0])
     }
 
     /// Fills `buf` with the bytes from `addr` on.
@@ -108,7 +113,7 @@ impl Memory {
         ensures ok { OnOk result (buf.new ≡ take (length buf.old) (drop addr self.now.image)) }
         ensures err { OnErr result (buf.new ≡ buf.old) }
     {
-        if addr as usize + buf.len() > self.size as usize {
+        if addr as usize + buf.len() > self.size() as usize {
             return Err(MemFault::OutOfMemoryRange);
         }
         match self.table.part(addr as usize, buf.len()) {
@@ -165,7 +170,7 @@ impl Memory {
         ensures refused { nat_lt (length self.old.image) (segment.addr + segment.len) ≡ true
             → self.new ≡ self.old }
     {
-        if segment.addr as usize + segment.len as usize > self.size as usize {
+        if segment.addr as usize + segment.len as usize > self.size() as usize {
             return Err(MemFault::OutOfMemoryRange);
         }
         if self.made(segment) {
@@ -210,7 +215,7 @@ impl Memory {
         if start == end {
             return true;
         }
-        end <= self.size as usize
+        end <= self.size() as usize
             && self
                 .flags
                 .are_set(start / PAGE_SIZE, end.div_ceil(PAGE_SIZE))
@@ -294,7 +299,7 @@ impl Memory {
         ensures refused { nat_lt (length self.old.image) (addr + length bytes.now) ≡ true
             → self.new ≡ self.old }
     {
-        if addr as usize + bytes.len() > self.size as usize {
+        if addr as usize + bytes.len() > self.size() as usize {
             return Err(MemFault::OutOfMemoryRange);
         }
         let len = bytes.len() as u32;

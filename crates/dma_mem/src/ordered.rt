@@ -41,6 +41,7 @@ fn ended_by(ranges: &[Segment], end: u64) -> usize
 // Returns whether there are no ranges, or the segment lies below the first range or above the last one. It then shares
 // no address with a range.
 #[inline(always)]
+#[tactic(auto, using(crate::proofs::RangeSets::none_at_all, crate::proofs::RangeSets::below_all, crate::proofs::RangeSets::above_all))]
 fn lies_outside(ranges: &[Segment], segment: Segment) -> bool
     requires { IsOrdered ranges.now }
     ensures { IsTrue result → share (range_of segment) (places ranges.now) ≡ false }

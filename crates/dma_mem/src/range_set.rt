@@ -113,6 +113,7 @@ impl RangeSet {
     }
 
     /// Returns whether the segment has an address of the set. An empty segment has none.
+    #[tactic(auto, using(crate::proofs::RangeSets::ordered_from))]
     pub fn meets(&self, segment: Segment) -> bool
         ensures { result ≡ share (range_of segment) (places self.now) }
     {
@@ -120,6 +121,7 @@ impl RangeSet {
     }
 
     /// Returns whether one of the segments has an address of the set.
+    #[tactic(auto, using(crate::proofs::RangeSets::ordered_from))]
     pub fn meets_any(&self, segments: &[Segment]) -> bool
         ensures { result ≡ share (places segments.now) (places self.now) }
     {

@@ -129,6 +129,7 @@ pub fn copy_run(regions: &[Region<'_>], addr: u32, most: usize, bytes: &mut Vec<
 }
 
 // Returns the byte at an address, or 0 if no region has it.
+#[tactic(auto, using(crate::proofs::PieceWrites::byte_shown))]
 fn byte_at(regions: &[Region<'_>], addr: u32) -> u8
     requires { IsTrue (in_order (pieces_of regions.now)) }
     ensures { result ≡ slice_index (image_of (pieces_of regions.now)) addr }
@@ -138,6 +139,7 @@ fn byte_at(regions: &[Region<'_>], addr: u32) -> u8
 }
 
 // Fills a block with the bytes from `addr` on.
+#[tactic(auto, using(crate::proofs::Pieces::image_of_most))]
 fn gather(regions: &[Region<'_>], addr: u32, block: &mut [u8])
     requires order { IsTrue (in_order (pieces_of regions.now)) }
     requires within { addr + length block.old ≤ length (image_of (pieces_of regions.now)) }
@@ -228,6 +230,7 @@ fn fill(regions: &mut [Region<'_>], addr: u32, len: u32, byte: u8)
 }
 
 // Fills a block with the bytes from `addr` on.
+#[tactic(auto, using(crate::proofs::PieceWrites::rest_shown))]
 pub(crate) fn read_into(regions: &[Region<'_>], addr: u32, block: &mut [u8])
     requires order { IsTrue (in_order (pieces_of regions.now)) }
     requires within { addr + length block.old ≤ length (image_of (pieces_of regions.now)) }
@@ -273,6 +276,7 @@ impl Ram for LentRegions<'_, '_> {
       read_only = read_only_of r.regions.now;
     } };
 
+    #[tactic(auto, using(crate::proofs::Pieces::image_of_most))]
     #[inline(always)]
     fn size(&self) -> u64 {
         size_of(shared(&self.regions))
@@ -291,6 +295,7 @@ impl Ram for LentRegions<'_, '_> {
         clear_of(shared(&self.regions), kind, segment)
     }
 
+    #[tactic(auto, using(crate::proofs::PieceWrites::rest_shown))]
     #[inline(always)]
     fn bytes<'a>(&'a self, addr: u32, block: &'a mut [u8]) -> &'a [u8] {
         let regions = shared(&self.regions);
@@ -310,15 +315,18 @@ impl Ram for LentRegions<'_, '_> {
         Ok(())
     }
 
+    #[tactic(auto, using(crate::proofs::ImagePut::length_put))]
     fn put(&mut self, addr: u32, bytes: &[u8]) {
         write(self.regions, addr, bytes);
     }
 
     #[inline(always)]
+    #[tactic(auto, using(crate::proofs::ImagePut::length_put))]
     fn copy_apart(&mut self, from: u32, to: u32, len: u32) {
         copy(self.regions, from, to, len);
     }
 
+    #[tactic(auto, using(crate::proofs::ImagePut::length_put))]
     fn fill(&mut self, addr: u32, len: u32, byte: u8) {
         fill(self.regions, addr, len, byte);
     }

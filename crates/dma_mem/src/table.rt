@@ -1,8 +1,8 @@
 //! A table of chunks, by number. A chunk is four pages in one piece, and is made when one of them is first made.
 
-ghost use Rattle.std.specs.Prelude.{◌≡◌, ◌≢◌, ℕ, ◌+◌, ◌*◌, ◌/◌, ◌%◌, ◌<◌, ◌≤◌, [], length, take, slice_index, slice_index_or, vec_capacity, IsTrue, IfOk, OnOk, OnErr};
+ghost use Rattle.std.specs.Prelude.{◌≡◌, ◌≢◌, ℕ, ◌+◌, ◌*◌, ◌/◌, ◌%◌, ◌<◌, ◌≤◌, [], length, take, slice_index, slice_index_or, slice_set, vec_capacity, IsTrue, IfOk, OnOk, OnErr};
 ghost use Rattle.dma_mem.specs.Image.{put, bytes_at};
-ghost use Rattle.dma_mem.specs.inner.ChunkTable.{bytes_shown, chunk_size, group_size, chunk_at, is_blank, PutsInChunk, OthersStay, SameBytes};
+ghost use Rattle.dma_mem.specs.inner.ChunkTable.{bytes_shown, chunk_size, group_size, chunk_at, chunk_of, is_blank, OthersStay, PutsBytes, SameBytes, SameLengths};
 
 mod addresses;
 pub(crate) mod blocks;
@@ -230,10 +230,9 @@ impl Group {
     fn put(&mut self, index: usize, offset: usize, bytes: &[u8])
         requires fits { offset + length bytes.now ≤ chunk_size }
         requires made { 0 < length (chunk_at self.old index) }
-        ensures len { length (chunk_at self.new index) ≡ length (chunk_at self.old index) }
-        ensures bytes { PutsInChunk (chunk_at self.old index) offset bytes.now
-            (chunk_at self.new index) }
-        ensures others { OthersStay self.old self.new index }
+        ensures whole { length (chunk_at self.old index) ≡ chunk_size }
+        ensures new { self.new
+            ≡ slice_set self.old index (put (chunk_at self.old index) (bytes_at offset bytes.now)) }
     {
         let chunk = &mut self.chunks[index];
         chunk.put(offset, bytes);
@@ -252,6 +251,7 @@ impl Group {
 }
 
 // Returns `count` groups in which no chunk is made.
+#[tactic(auto, using(crate::proofs::ChunkTables::none_more))]
 fn no_groups(alloc: Global, count: usize) -> Result<Vec<Group>, AllocError>
     ensures len { IfOk result (λ v. length v.items ≡ count) }
     ensures none { IfOk result (λ v. (g : ℕ) → slice_index_or v.items g [] ≡ []) }
@@ -280,6 +280,7 @@ impl Model for Table {
 
 impl Table {
     /// Returns a table of chunks for at least `size` bytes, none of them made.
+    #[tactic(auto, using(crate::proofs::ChunkTables::length_flat, crate::proofs::ChunkTables::chunk_at_flat))]
     pub(crate) fn new(alloc: Global, size: usize) -> Result<Table, AllocError>
         ensures enough { IfOk result (λ table. size ≤ chunk_size * length table) }
         ensures none { IfOk result (λ table. (p : ℕ) → chunk_at table p ≡ []) }
@@ -314,19 +315,19 @@ impl Table {
         group.make(number % GROUP_SIZE)
     }
 
-    // Writes the bytes to a chunk that is already made, from an offset on.
+    // Writes the bytes from `start` on. They lie in one chunk, which is already made.
     #[inline(always)]
-    fn put_in_chunk(&mut self, number: usize, offset: usize, bytes: &[u8])
-        requires fits { offset + length bytes.now ≤ chunk_size }
-        requires made { 0 < length (chunk_at self.old number) }
+    #[tactic(auto, using(crate::proofs::ChunkChanges::group_found, crate::proofs::ChunkChanges::chunk_in_group))]
+    fn put_in_chunk(&mut self, start: usize, bytes: &[u8])
+        requires within { start % chunk_size + length bytes.now ≤ chunk_size }
+        requires made { 0 < length (chunk_of self.old start) }
+        ensures len { SameLengths self.old self.new }
         ensures count { length self.new ≡ length self.old }
-        ensures len { length (chunk_at self.new number) ≡ length (chunk_at self.old number) }
-        ensures bytes { PutsInChunk (chunk_at self.old number) offset bytes.now
-            (chunk_at self.new number) }
-        ensures others { OthersStay self.old self.new number }
+        ensures image { PutsBytes self.old self.new start bytes.now }
     {
+        let number = start / CHUNK_SIZE;
         let group = &mut self.groups[number / GROUP_SIZE];
-        group.put(number % GROUP_SIZE, offset, bytes);
+        group.put(number % GROUP_SIZE, start % CHUNK_SIZE, bytes);
     }
 
     /// Returns a copy of the table.

@@ -111,6 +111,7 @@ impl Model for Transfer {
 }
 
 // Returns the place at a position of a list, or `None` past its end.
+#[tactic(auto, using(crate::proofs::PlaceAt::place_within, crate::proofs::PlaceAt::place_past))]
 fn place_at(list: &[Segment], position: u32) -> Option<u32>
     requires { All (λ s. s.addr + s.len ≤ end_of_addresses) list.now }
     ensures { result ≡ slice_get (places list.now) position }
@@ -149,6 +150,7 @@ impl Transfer {
     /// above 2^32; `TotalsDiffer` if the lists have different numbers of bytes; `TooLong` for more than
     /// [`MAX_TRANSFER_BYTES`]; `DestinationsMeet`; `SourceMeetsDestination`; `BadEvent` for an event above
     /// [`LAST_EVENT`]; and last `NoMemory`. Source segments may meet each other.
+    #[tactic(auto, using(crate::proofs::TransferRules::copy_from_no_refusal, crate::proofs::TransferRules::length_places))]
     pub fn new(
         alloc: Global,
         src: &[Segment],
@@ -176,6 +178,7 @@ impl Transfer {
 
     /// Does the same as [`Transfer::new`] with lists that it takes over, and allocates nothing. The errors are those of
     /// [`Transfer::new`] in their order, without `NoMemory`.
+    #[tactic(auto, using(crate::proofs::TransferRules::copy_from_no_refusal, crate::proofs::TransferRules::length_places))]
     pub fn from_lists(
         src: Segments,
         dst: Segments,
@@ -302,6 +305,7 @@ impl Transfer {
 
     /// Returns the address that position `position` is read from, or `None` at or past the length. A fill reads the
     /// same address at each position.
+    #[tactic(auto, using(crate::proofs::TransferRules::place_of_fill))]
     pub fn src_place(&self, position: u32) -> Option<u32>
         ensures { result ≡ slice_get (sources self.now) position }
     {
@@ -328,6 +332,7 @@ impl Transfer {
     }
 
     /// Returns whether a source or a destination segment meets this one.
+    #[tactic(auto, using(crate::proofs::TransferRules::touches_lists))]
     pub fn touches(&self, segment: Segment) -> bool
         ensures { result ≡ touches self.now segment }
     {

@@ -42,6 +42,7 @@ fn copy_block(regions: &mut [Region<'_>], from: u32, to: u32, len: usize)
 }
 
 // Copies `len` bytes from `from` to `to`, a block at a time. The two ranges share no address.
+#[tactic(auto, using(crate::proofs::PieceWrites::writable_most, crate::proofs::Pieces::image_of_most))]
 fn copy_by_blocks(regions: &mut [Region<'_>], from: u32, to: u32, len: u32)
     requires writable { Writable regions.old to len }
     requires source { from + len ≤ length (image_of (pieces_of regions.old)) }

@@ -4,6 +4,7 @@
 ghost use Rattle.std.specs.Prelude.{◌≡◌, ℕ, ◌+◌, ◌*◌, ◌%◌, ◌<◌, ◌≤◌, ◌^◌, length, true, false, IfOk, IfSome, IsSome, OnOk, OnErr};
 ghost use Rattle.dma_mem.specs.inner.ChunkTable.{chunk_size, chunk_at, AreBytesFrom, PutsBytes, RangeMade, RangeMissing, SameBytes, SameLengths};
 
+use crate::table::blocks::in_one_chunk;
 use crate::table::{CHUNK_SIZE, Table, shown};
 use std::alloc::{AllocError, Global};
 
@@ -86,6 +87,7 @@ impl Table {
 
     // Writes the bytes from `start` on to chunks that are already made, with one look-up for each chunk.
     #[inline(never)]
+    #[tactic(auto, using(crate::proofs::PageImages::put_none))]
     fn put_in_turn(&mut self, start: usize, bytes: &[u8])
         requires limit { start + length bytes.now < 2 ^ 33 }
         requires made { RangeMade self.old start (start + length bytes.now) }
@@ -96,9 +98,8 @@ impl Table {
         let mut done = 0;
         while done < bytes.len() {
             let at = start + done;
-            let offset = at % CHUNK_SIZE;
-            let count = (CHUNK_SIZE - offset).min(bytes.len() - done);
-            self.put_in_chunk(at / CHUNK_SIZE, offset, &bytes[done..done + count]);
+            let count = in_one_chunk(at, bytes.len() - done);
+            self.put_in_chunk(at, &bytes[done..done + count]);
             done += count;
         }
     }
@@ -112,10 +113,9 @@ impl Table {
         ensures count { length self.new ≡ length self.old }
         ensures image { PutsBytes self.old self.new start bytes.now }
     {
-        let offset = start % CHUNK_SIZE;
         let len = bytes.len();
-        if len > 0 && offset + len <= CHUNK_SIZE {
-            self.put_in_chunk(start / CHUNK_SIZE, offset, bytes);
+        if len > 0 && start % CHUNK_SIZE + len <= CHUNK_SIZE {
+            self.put_in_chunk(start, bytes);
         } else {
             self.put_in_turn(start, bytes);
         }

@@ -8,7 +8,7 @@ use crate::table::{CHUNK_SIZE, Chunk, GROUP_SIZE, Group, Table, add_zeros, is_bl
 use std::mem;
 
 // Returns how many of the `len` bytes from `start` on lie in the same chunk as the first.
-fn in_one_chunk(start: usize, len: usize) -> usize
+pub(crate) fn in_one_chunk(start: usize, len: usize) -> usize
     ensures most { result ≤ len }
     ensures some { 0 < len → 0 < result }
     ensures fits { start % chunk_size + result ≤ chunk_size }
@@ -101,6 +101,7 @@ impl Table {
     //
     // The destination's chunk is taken out of the table during the copy, so that the source's chunk can be read in
     // place.
+    #[tactic(auto, using(crate::proofs::ChunkChanges::group_found, crate::proofs::ChunkChanges::chunk_in_group))]
     fn copy_in_chunks(&mut self, from: usize, to: usize, len: usize)
         requires source { from % chunk_size + len ≤ chunk_size }
         requires within { to % chunk_size + len ≤ chunk_size }
@@ -131,6 +132,7 @@ impl Table {
     /// Copies `len` bytes from `from` to `to`. The chunks of the destination are already made, and the two ranges share
     /// no address.
     #[inline(never)]
+    #[tactic(auto, using(crate::proofs::PageImages::put_none))]
     pub(crate) fn copy_apart(&mut self, from: usize, to: usize, len: usize)
         requires source { from + len < 2 ^ 33 }
         requires limit { to + len < 2 ^ 33 }
@@ -150,6 +152,7 @@ impl Table {
     }
 
     // Sets `len` bytes that lie in one chunk, which is already made, to one byte.
+    #[tactic(auto, using(crate::proofs::ChunkChanges::group_found, crate::proofs::ChunkChanges::chunk_in_group))]
     fn fill_in_chunk(&mut self, start: usize, len: usize, byte: u8)
         requires within { start % chunk_size + len ≤ chunk_size }
         requires made { 0 < length (chunk_of self.old start) }
@@ -164,6 +167,7 @@ impl Table {
 
     /// Sets the `len` bytes from `start` on to one byte. Their chunks are already made.
     #[inline(never)]
+    #[tactic(auto, using(crate::proofs::PageImages::put_none))]
     pub(crate) fn fill(&mut self, start: usize, len: usize, byte: u8)
         requires limit { start + len < 2 ^ 33 }
         requires made { RangeMade self.old start (start + len) }

@@ -71,6 +71,7 @@ fn overlap_of_many(src: &[Segment], dst: &[Segment]) -> Option<TransferFault>
 }
 
 // Returns the same as `overlap_of_many`, but doesn't sort a list of one destination.
+#[tactic(auto, using(crate::proofs::NeighboursMeet::overlap_one))]
 fn overlap(src: &[Segment], dst: &[Segment]) -> Option<TransferFault>
     requires few { length dst.now ≤ most_segments }
     requires filled { All (λ s. 0 < s.len) dst.now }

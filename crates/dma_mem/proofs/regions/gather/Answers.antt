@@ -1,14 +1,7 @@
 use Rattle.std.proofs.Common.{◌≡◌, ◌<◌, length, take, drop, sym, ◌∙◌, arith}
 use Rattle.std.proofs.lemmas.List.{ext_get_or, length-take-le, length-drop, get_or-take, get_or-drop}
 use Rattle.dma_mem.specs.Regions.{pieces_of, image_of}
-use Rattle.dma_mem.proofs.Pieces.{image_of_most}
 use Rattle.dma_mem.proofs.regions.gather.Goals as goal
-
-pub overflow_cast-i : goal.overflow_cast-i
-overflow_cast-i c = omega (arith, image_of_most (pieces_of c.args.regions.now) c.requires.order)
-
-pub overflow_add-addr : goal.overflow_add-addr
-overflow_add-addr c = omega (arith, image_of_most (pieces_of c.args.regions.now) c.requires.order)
 
 pub returns : goal.returns
 returns c =

@@ -29,14 +29,3 @@ invariant_of-self-2 c =
           c.args.segment c.self.invariant
           w.add_in_order-in-Writing.ensures.ordered w.in_ok-add_in_order-in-Writing.ensures.ok (longer c _ _ w.self-inside-is refl w.in-Writing.is))
     ]
-
-pub invariant_of-self : goal.invariant_of-self
-invariant_of-self c = rw c.reserve.ensures.items c.self.invariant
-
-pub invariant_of-self-in_err-add_in_order-in-Reading : goal.invariant_of-self-in_err-add_in_order-in-Reading
-invariant_of-self-in_err-add_in_order-in-Reading c =
-    rw (c.reserve.ensures.items, c.in_err-add_in_order-in-Reading.ensures.err) c.self.invariant
-
-pub invariant_of-self-in_err-add_in_order-in-Writing : goal.invariant_of-self-in_err-add_in_order-in-Writing
-invariant_of-self-in_err-add_in_order-in-Writing c =
-    rw (c.reserve.ensures.items, c.in_err-add_in_order-in-Writing.ensures.err) c.self.invariant

@@ -1,16 +1,6 @@
 use Rattle.std.proofs.Common.{length, arith}
-use Rattle.dma_mem.proofs.PageImages.{size_seen, read_seen}
+use Rattle.dma_mem.proofs.PageImages.{read_seen}
 use Rattle.dma_mem.proofs.memory.Memory.bytes.Goals as goal
-
-pub part-requires : goal.part-requires
-part-requires c =
-    let long = size_seen c.self.inside.size c.self.inside.table c.self.inside.flags c.args.self.now c.self.view_is in
-    omega (arith, long, c.requires, c.self.invariant)
-
-pub read-requires : goal.read-requires
-read-requires c =
-    let long = size_seen c.self.inside.size c.self.inside.table c.self.inside.flags c.args.self.now c.self.view_is in
-    omega (arith, long, c.requires, c.self.invariant)
 
 pub returns-in-Some : goal.returns-in-Some
 returns-in-Some c =

@@ -2,12 +2,8 @@ use Rattle.std.proofs.Common.{◌≡◌, ◌/◌, length, ap, sym, ◌∙◌, ar
 use Rattle.std.proofs.lemmas.Result.{err_from_is_err_and}
 use Rattle.dma_mem.specs.Pages.{Paged, has_page}
 use Rattle.dma_mem.specs.inner.ChunkTable.{image_of, paged, HasChunks}
-use Rattle.dma_mem.proofs.PageImages.{Flagged, size_seen, image_seen, short_of_flag, short_of_chunk, HasChunks_kept, Keeps_same, Keeps_flagged, AllMade_flagged, MakesNoOther_flagged}
+use Rattle.dma_mem.proofs.PageImages.{Flagged, image_seen, short_of_flag, short_of_chunk, HasChunks_kept, Keeps_same, Keeps_flagged, AllMade_flagged, MakesNoOther_flagged}
 use Rattle.dma_mem.proofs.memory.Memory.make.Goals as goal
-
-pub make-requires-clause-within : goal.make-requires-clause-within
-make-requires-clause-within c =
-    omega (arith, size_seen c.self.inside.size c.self.inside.table c.self.inside.flags c.args.self.now c.self.view_is, c.requires.within, c.self.invariant)
 
 pub returns-in_err-make_room-clause-short : goal.returns-in_err-make_room-clause-short
 returns-in_err-make_room-clause-short c =

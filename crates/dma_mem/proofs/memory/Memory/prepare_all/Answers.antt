@@ -1,6 +1,6 @@
-use Rattle.std.proofs.Common.{◌≡◌, ◌+◌, true, ◌∙◌, ap, arith, refl, length, take, get_or, subst, List}
+use Rattle.std.proofs.Common.{◌∙◌, ap, arith, refl, length, take}
 use Rattle.std.proofs.{lemmas.List.take_all, lemmas.Bool.le-ltb}
-use Rattle.dma_mem.specs.{declared.segment.Segment.Segment, Pages.AllMade, Places.places, Places.all_below}
+use Rattle.dma_mem.specs.{declared.segment.Segment.Segment, Places.places}
 use Rattle.dma_mem.proofs.PrepareAll.{in_places, below_more, made_more, keeps_made, Keeps_trans, Keeps_refl}
 use Rattle.dma_mem.proofs.SharedPlaces.{ends_below}
 use Rattle.dma_mem.proofs.memory.Memory.prepare_all.Goals as goal
@@ -24,11 +24,7 @@ loop-s-preserved c =
     }
 
 pub returns-in-Err-clause-err : goal.returns-in-Err-clause-err
-returns-in-Err-clause-err c = λ below.
-    let d : Segment = record { addr = 0; len = 0 } in
-    let s = get_or c.args.list.now c.loop-s.s-index d in
-    let fits = ends_below c.args.list.now (length c.args.self.now.image) c.loop-s.s-index d below c.loop-s-test.true in
-    rw (le-ltb (length c.loop-s.self.image) (s.addr + s.len) (omega (arith, fits, ap length c.loop-s.invariant.image))) at c.in-Err.ensures.err
+returns-in-Err-clause-err c = grind (arith, ends_below, le-ltb)
 
 pub returns-in-Err-clause-short : goal.returns-in-Err-clause-short
 returns-in-Err-clause-short c = λ below all.
@@ -39,13 +35,10 @@ returns-in-Err-clause-short c = λ below all.
     c.in-Err.ensures.short (omega (arith, fits, ap length c.loop-s.invariant.image)) (λ a here. all a (in_places list i d a c.loop-s-test.true here))
 
 pub returns-clause-ok : goal.returns-clause-ok
-returns-clause-ok c = subst (λ (xs : List Segment). AllMade c.loop-s.self (places xs)) (take_all c.loop-s.s-index c.args.list.now c.loop-s-test.false)
-    c.loop-s.invariant.made
+returns-clause-ok c = grind (arith, take_all)
 
 pub returns-clause-within : goal.returns-clause-within
-returns-clause-within c =
-    subst (λ (xs : List Segment). all_below xs (length c.args.self.now.image) ≡ true) (take_all c.loop-s.s-index c.args.list.now c.loop-s-test.false)
-    c.loop-s.invariant.within
+returns-clause-within c = grind (arith, take_all)
 
 pub returns-in-Err-clause-others : goal.returns-in-Err-clause-others
 returns-in-Err-clause-others c = λ p off.

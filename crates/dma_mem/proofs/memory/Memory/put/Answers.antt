@@ -1,11 +1,6 @@
 use Rattle.std.proofs.Common.{length, arith}
-use Rattle.dma_mem.proofs.PageImages.{size_seen, chunks_seen}
+use Rattle.dma_mem.proofs.PageImages.{chunks_seen}
 use Rattle.dma_mem.proofs.memory.Memory.put.Goals as goal
-
-pub put-requires-clause-limit : goal.put-requires-clause-limit
-put-requires-clause-limit c =
-    let long = size_seen c.self.inside.size c.self.inside.table c.self.inside.flags c.args.self.now c.self.view_is in
-    omega (arith, long, c.requires.within, c.self.invariant)
 
 pub put-requires-clause-made : goal.put-requires-clause-made
 put-requires-clause-made c = λ a low high.

@@ -13,13 +13,6 @@ returns-then-has-clause-before c = λ k less.
     earlier c.args.regions.now c.args.addr c.begun_by-begun.result k no_region c.requires c.begun_by-begun.ensures.bound c.begun_by-begun.ensures.first
     (omega (arith, less))
 
-pub returns-then-has-clause-found : goal.returns-then-has-clause-found
-returns-then-has-clause-found c = λ less.
-    let rs = c.args.regions.now in
-    let last = c.begun_by-begun.result - 1 in
-    let is = piece_at_item rs last c.index-regions-begun.result less c.index-regions-begun.is in
-    ap (has c.args.addr) is ∙ ap (λ (a : ℕ). has a (piece_of c.index-regions-begun.result)) (sym c.from.ensures) ∙ sym c.has.ensures ∙ c.if-has.true
-
 pub returns-else-has-clause-before : goal.returns-else-has-clause-before
 returns-else-has-clause-before c = λ k less.
     none_has c.args.regions.now c.args.addr c.begun_by-begun.result k no_region c.requires c.begun_by-begun.ensures.bound c.begun_by-begun.ensures.first

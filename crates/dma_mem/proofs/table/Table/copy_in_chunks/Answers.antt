@@ -1,61 +1,18 @@
-use Rattle.std.proofs.Common.{◌≡◌, ◌/◌, ◌%◌, ◌+◌, List, ℕ, length, get_or, take, drop, replicate, ◌-◌, ◌<◌, ap, sym, ◌∙◌, arith, inl, inr}
+use Rattle.std.proofs.Common.{◌≡◌, ◌/◌, ◌%◌, ◌+◌, List, ℕ, length, get_or, take, drop, replicate, ◌-◌, ◌<◌, ap, sym, ◌∙◌, arith}
 use Rattle.std.proofs.lemmas.Bool.{eqb-false, eqb-true}
 use Rattle.std.proofs.lemmas.List.{drop-replicate, get_or_past, length-replicate, take-replicate}
 use Rattle.dma_mem.specs.Image.{put, bytes_at}
-use Rattle.dma_mem.specs.inner.ChunkTable.{chunk_at, flat}
+use Rattle.dma_mem.specs.inner.ChunkTable.{chunk_at}
 use Rattle.dma_mem.proofs.ChunkTables.{zero_at}
-use Rattle.dma_mem.proofs.ChunkChanges.{HasCopy, group_found, chunk_in_group, within_group, within_taken, replaced, put_back, lengths_kept, has_copy, block_copied}
+use Rattle.dma_mem.proofs.ChunkChanges.{HasCopy, chunk_in_group, within_group, within_taken, replaced, put_back, lengths_kept, has_copy, block_copied}
 use Rattle.dma_mem.proofs.table.Table.copy_in_chunks.Goals as goal
 use Rattle.dma_mem.proofs.table.Table.copy_in_chunks.Goals.{then-from-number, else-from-number+then-is_empty, else-from-number+else-is_empty}
 
-pub index_mut-requires : goal.index_mut-requires
-index_mut-requires c =
-    let v : flat c.self.inside.groups.items ≡ c.args.self.now = c.self.view_is in
-    omega (arith, group_found c.self.inside.groups.items c.args.self.now (c.args.to / 16384) v c.requires.made, c.self.inside.groups.ok)
-
 pub replace-chunk-requires : goal.replace-chunk-requires
-replace-chunk-requires c =
-    within_group c.self.inside.groups.items c.args.self.now (c.args.to / 16384) c.index_mut.result.now c.self.view_is c.requires.made c.index_mut.ensures.value
-
-pub copy_apart-requires-clause-made : goal.copy_apart-requires-clause-made
-copy_apart-requires-clause-made c =
-    rw (
-      c.replace-chunk.ensures.old,
-      chunk_in_group c.self.inside.groups.items c.args.self.now (c.args.to / 16384) c.index_mut.result.now c.self.view_is
-          c.requires.made c.index_mut.ensures.value,
-    ) c.requires.made
-
-pub copy_apart-requires-clause-apart : goal.copy_apart-requires-clause-apart
-copy_apart-requires-clause-apart c = elim c.requires.apart [
-  | inl before ↦ inl (omega (arith, before, c.if-from-number.true, c.requires.source))
-  | inr past ↦ inr (omega (arith, past, c.if-from-number.true, c.requires.within))
-]
-
-pub fill-requires-clause-made : goal.fill-requires-clause-made
-fill-requires-clause-made c =
-    rw (
-      c.replace-chunk.ensures.old,
-      chunk_in_group c.self.inside.groups.items c.args.self.now (c.args.to / 16384) c.index_mut.result.now c.self.view_is
-          c.requires.made c.index_mut.ensures.value,
-    ) c.requires.made
-
-pub put-requires-clause-made : goal.put-requires-clause-made
-put-requires-clause-made c =
-    rw (
-      c.replace-chunk.ensures.old,
-      chunk_in_group c.self.inside.groups.items c.args.self.now (c.args.to / 16384) c.index_mut.result.now c.self.view_is
-          c.requires.made c.index_mut.ensures.value,
-    ) c.requires.made
-
-pub index_mut-requires-2 : goal.index_mut-requires-2
-index_mut-requires-2 c =
-    let v : flat c.self.inside.groups.items ≡ c.args.self.now = c.self.view_is in
-    omega (arith, group_found c.self.inside.groups.items c.args.self.now (c.args.to / 16384) v c.requires.made, c.self.inside.groups.ok)
+replace-chunk-requires c = grind (arith, within_group)
 
 pub replace-requires : goal.replace-requires
-replace-requires c =
-    within_taken c.self.inside.groups.items c.args.self.now (c.args.to / 16384) c.index_mut.result.now c.replace-chunk.new.self c.index_mut-2.result.now
-    c.new-empty.result c.self.view_is c.requires.made c.index_mut.ensures.value c.replace-chunk.ensures.new c.index_mut-2.ensures.value
+replace-requires c = grind (arith, within_taken)
 
 pub returns : goal.returns
 returns c =

@@ -1,5 +1,5 @@
 use Rattle.std.proofs.Common.{◌≡◌, ℕ, ◌-◌, ◌≤◌, length, take}
-use Rattle.dma_mem.specs.{inner.ChunkTable.chunk_at, inner.ChunkTable.image_of, Image.put, Image.bytes_at}
+use Rattle.dma_mem.specs.inner.ChunkTable.{chunk_at, PutsBytes}
 use Rattle.dma_mem.proofs.table.Table.put_in_turn.Given as goal
 
 abbrev pub invariant-loop-done : goal.invariant-loop-done
@@ -7,7 +7,7 @@ invariant-loop-done l = record {
   within : l.done ≤ length l.bytes;
   count : length l.self ≡ length l.fn.self;
   len : (p : ℕ) → length (chunk_at l.self p) ≡ length (chunk_at l.fn.self p);
-  image : (size : ℕ) → image_of size l.self ≡ put (image_of size l.fn.self) (bytes_at l.start (take l.done l.bytes));
+  image : PutsBytes l.fn.self l.self l.start (take l.done l.bytes);
 }
 
 abbrev pub decreases-loop-done : goal.decreases-loop-done

@@ -1,4 +1,4 @@
-use Rattle.std.proofs.Common.{◌≡◌, ◌+◌, ◌-◌, ◌≤◌, ◌++◌, List, ℕ, [], length, take, drop, arith, ap, sym, ◌∙◌, append-nil, inl, inr}
+use Rattle.std.proofs.Common.{◌≡◌, ◌+◌, ◌≤◌, ◌++◌, List, ℕ, [], length, take, drop, arith, ap, sym, ◌∙◌, append-nil}
 use Rattle.std.proofs.{Math.Seq.drop-append_seam, lemmas.List.length-take-le, lemmas.List.length-drop, lemmas.List.take-append-le, lemmas.List.drop-append-le}
 use Rattle.dma_mem.specs.{Image.put, Image.bytes_at, inner.Blocks.copied}
 use Rattle.dma_mem.proofs.PieceWrites.{put_middle}
@@ -35,23 +35,7 @@ copied_down all front back from to len is long after within =
     ∙ ap (λ (xs : List ℕ). copied xs from to len) (sym is)
 
 pub returns-then-from-len : goal.returns-then-from-len
-returns-then-from-len c =
-    let cut = c.split_at_mut-front in
-    let front = cut.result.0.now in
-    let back = cut.result.1.now in
-    let from = c.args.from in
-    let len = c.args.len in
-    let n : (from + len) - from ≡ len = omega arith in
-    ap (λ (xs : List ℕ). front ++ xs) (c.put_bytes.ensures ∙ ap (λ (k : ℕ). put back (bytes_at 0 (take k (drop from front)))) n)
-    ∙ copied_up c.args.all.now front back from c.args.to len cut.ensures.value cut.ensures.front_len (omega arith)
-    (omega (arith, cut.ensures.front_len, cut.ensures.back_len))
+returns-then-from-len c = grind (arith, copied_up)
 
 pub returns-else-from-len : goal.returns-else-from-len
-returns-else-from-len c =
-    let cut = c.split_at_mut-front-else-from-len in
-    let front = cut.result.0.now in
-    let back = cut.result.1.now in
-    let apart : c.args.to + c.args.len ≤ c.args.from = elim c.requires.apart [ inl before ↦ absurd (omega (arith, before)) | inr past ↦ past ] in
-    ap (λ (xs : List ℕ). xs ++ back) c.put_bytes-else-from-len.ensures
-    ∙ copied_down c.args.all.now front back c.args.from c.args.to c.args.len cut.ensures.value cut.ensures.front_len apart
-    (omega (arith, cut.ensures.front_len, cut.ensures.back_len))
+returns-else-from-len c = grind (arith, copied_down)
