@@ -1,16 +1,16 @@
 -- A burst by the fields of one end of a control word.
-use Rattle.std.proofs.Common.{◌≡◌, ℕ, ◌+◌, ◌^◌, Option, Some, None, refl, ap, ◌∙◌}
+use Rattle.std.proofs.Common.{arith}
+use Rattle.std.proofs.Common.{◌≡◌, ℕ, ◌+◌, ◌^◌, Option, Some, refl}
 use Rattle.std.specs.Option.{option_map}
 use Rattle.std.proofs.lemmas.Option.{same_Some}
 use Rattle.dma_insn.specs.ControlWord.{field, size_code, size_of, beat_bytes, end_with, end_at}
-use Rattle.dma_insn.specs.{declared.control.BeatSize.BeatSize, declared.control.BeatSize.TheVariants.One, declared.control.BurstEnd.BurstEnd}
+use Rattle.dma_insn.specs.{declared.control.BeatSize.BeatSize, declared.control.BurstEnd.BurstEnd}
 use Rattle.dma_insn.proofs.ControlLaws.{size_code_size_of}
 use Rattle.dma_chan.specs.{declared.bursts.Burst.Burst, declared.bus.Bus.Bus, Bursts.burst_at, Bursts.skip_of}
 
 -- the bytes of a beat are a power of two, by its code
 pub beat_bytes_power : (s : BeatSize) → beat_bytes s ≡ 2 ^ size_code s
-beat_bytes_power One = refl
-beat_bytes_power s = refl
+beat_bytes_power s = grind (arith)
 
 abbrev burst_of : Bus → ℕ → BurstEnd → Burst
 burst_of bus addr e = record {
@@ -24,11 +24,7 @@ burst_of bus addr e = record {
 of_size : (bus : Bus) (k addr w : ℕ) (o : Option BeatSize) (e : BurstEnd) → size_of (field (k + 1) 3 w) ≡ o → option_map (end_with k w) o ≡ Some e
     → burst_of bus addr e ≡ burst_at bus k addr w
 unfolding burst_at
-of_size bus k addr w None e is h = absurd (cc)
-of_size bus k addr w (Some s) e is h =
-    let same : end_with k w s ≡ e = same_Some (end_with k w s) e h in
-    let size : beat_bytes s ≡ 2 ^ field (k + 1) 3 w = beat_bytes_power s ∙ ap (λ (n : ℕ). 2 ^ n) (size_code_size_of (field (k + 1) 3 w) s is) in
-    rw (← same, size) refl
+of_size bus k addr w o e h h2 = grind (arith, same_Some, beat_bytes_power, size_code_size_of)
 
 -- the burst of the end whose lowest bit is bit k
 pub burst_of_end : (bus : Bus) (k addr w : ℕ) (e : BurstEnd) → end_at k w ≡ Some e

@@ -1,16 +1,15 @@
 -- The control words of a compiled program.
-use Rattle.std.proofs.Common.{◌≡◌, ℕ, ◌+◌, ◌-◌, ◌*◌, ◌/◌, ◌%◌, ◌^◌, ◌≤◌, ◌<◌, Bool, true, false, cond, zero, suc, refl, subst, sym, ap, ◌∙◌, arith, Some, inl}
-use Rattle.std.proofs.Common.{inr}
-use Rattle.std.specs.{Prelude.◌==◌, Prelude.nat_le, Prelude.not, Prelude.replicate, List.range_with_len}
+use Rattle.std.proofs.Common.{◌≡◌, ℕ, ◌+◌, ◌-◌, ◌*◌, ◌/◌, ◌%◌, ◌^◌, ◌≤◌, ◌<◌, Bool, true, false, cond, zero, suc, refl, subst, sym, ap, ◌∙◌, arith, Some}
+use Rattle.std.specs.{Prelude.◌==◌, Prelude.not, Prelude.replicate, List.range_with_len}
 use Rattle.std.proofs.lemmas.Nat.{mod_below, pow_below, pow_pos}
 use Rattle.std.proofs.lemmas.Bool.{and_parts, cases_lt, cond_both, eqb-true, le-leb, leb-true}
 use Rattle.std.proofs.Math.Nat.{add-mod-mod, mod-one, mul-mod_left, zero-mod}
 use Rattle.dma_insn.specs.declared.control.BeatSize.{BeatSize}
 use Rattle.dma_insn.specs.declared.control.BeatSize.TheVariants.{One, Two, Four, Eight, Sixteen}
-use Rattle.dma_insn.specs.ControlWord.{control_of, is_control, end_at, field, size_code, size_of, beat_bytes, bits_of, end_bits}
+use Rattle.dma_insn.specs.ControlWord.{control_of, is_control, end_at, size_code, size_of, beat_bytes, bits_of, end_bits}
 use Rattle.dma_chan.specs.Compiled.{beat_of, control_word, burst_end, fits}
-use Rattle.dma_chan.specs.Bursts.{IsAligned, burst_at, burst_len, skip_of, span_of, touched, advance}
-use Rattle.dma_chan.specs.{declared.bus.Bus.Bus, declared.bus.Bus.TheVariants.Ideal, declared.bus.Bus.TheVariants.Chip, Bus.accepts, Bus.bus_code}
+use Rattle.dma_chan.specs.Bursts.{IsAligned, burst_at, burst_len, span_of, touched, advance}
+use Rattle.dma_chan.specs.{declared.bus.Bus.Bus, declared.bus.Bus.TheVariants.Ideal, Bus.accepts}
 use Rattle.dma_chan.specs.{Bus.widest_beat, declared.pieces.Piece.Piece, declared.bursts.Burst.Burst, Traffic.len_by, inner.Spans.MovesSome}
 use Rattle.dma_chan.proofs.{BurstEnds.beat_bytes_power, BurstRounds.one_again, CutPlaces.run_of, CutPlaces.way}
 
@@ -26,36 +25,22 @@ touched_up b e = rw e refl
 -- the addresses of a rising burst from an address under a word
 pub touched_from : (bus : Bus) (k a w n : ℕ) → (burst_at bus k a w).increments ≡ true → burst_len (burst_at bus k a w) ≡ n
     → touched (burst_at bus k a w) ≡ range_with_len a n
-touched_from bus k a w n up len = touched_up (burst_at bus k a w) up ∙ ap (λ (x : ℕ). range_with_len x (burst_len (burst_at bus k a w))) (addr_there bus k a w)
-    ∙ ap (range_with_len a) len
+touched_from bus k a w n up len = grind (arith, touched_up, addr_there)
 
 -- a burst that doesn't rise leaves nothing out, on any bus
 pub fixed_whole : (bus : Bus) (k a w : ℕ) → (burst_at bus k a w).increments ≡ false → (burst_at bus k a w).skip ≡ 0
 unfolding burst_at
-fixed_whole bus k a w still = by bus (field k 1 w == 1) still
-  where
-    by : (b : Bus) (i : Bool) → i ≡ false → skip_of b i a (2 ^ field (k + 1) 3 w) ≡ 0
-    by Ideal i e = refl
-    by (Chip width) true e = absurd (cc)
-    by (Chip width) false e = refl
+fixed_whole bus k a w still = grind arith
 
 -- nor does one at a multiple of its beat's size
 pub aligned_whole : (bus : Bus) (k a w : ℕ) → IsAligned (burst_at bus k a w) → (burst_at bus k a w).skip ≡ 0
 unfolding burst_at
-aligned_whole bus k a w aligned = by bus (field k 1 w == 1) aligned
-  where
-    by : (b : Bus) (i : Bool) → (i ≡ true → a % 2 ^ field (k + 1) 3 w ≡ 0) → skip_of b i a (2 ^ field (k + 1) 3 w) ≡ 0
-    by Ideal i h = refl
-    by (Chip width) true h = h refl
-    by (Chip width) false h = refl
+aligned_whole bus k a w aligned = grind arith
 
 -- at such an address a burst is the same on each bus
 pub same_burst : (bus other : Bus) (k a w : ℕ) → IsAligned (burst_at bus k a w) → burst_at bus k a w ≡ burst_at other k a w
 unfolding burst_at
-same_burst bus other k a w aligned =
-    let here : (burst_at bus k a w).skip ≡ 0 = aligned_whole bus k a w aligned in
-    let there : (burst_at other k a w).skip ≡ 0 = aligned_whole other k a w aligned in
-    ap (λ (n : ℕ). record { addr = a; increments = field k 1 w == 1; size = 2 ^ field (k + 1) 3 w; beats = field (k + 4) 4 w + 1; skip = n }) (here ∙ sym there)
+same_burst bus other k a w aligned = grind (arith, aligned_whole)
 
 -- and has as many bytes as on the ideal bus anywhere
 pub len_anywhere : (k a w : ℕ) → burst_len (burst_at Ideal k a w) ≡ len_by k w
@@ -73,15 +58,7 @@ aligned_by k w b size bus a fits = λ up. ap (λ (n : ℕ). a % n) (size a) ∙ 
 -- a burst moves some byte
 pub moves_some : (bus : Bus) (k a w : ℕ) → MovesSome (burst_at bus k a w)
 unfolding burst_at
-moves_some bus k a w =
-    let n = 2 ^ field (k + 1) 3 w in
-    let some : 1 ≤ n = pow_pos (field (k + 1) 3 w) in
-    let less : (b : Bus) (i : Bool) → skip_of b i a n < n =
-    λ b i. elim b as (λ x. skip_of x i a n < n) [
-      | Ideal ↦ some
-      | Chip width ↦ elim i as (λ y. skip_of (Chip width) y a n < n) [ true ↦ mod_below a n some | false ↦ some ]
-    ] in
-    record { size = some; beats = omega arith; skip = less bus (field k 1 w == 1); fixed = fixed_whole bus k a w }
+moves_some bus k a w = grind (arith, pow_pos, mod_below, fixed_whole)
 
 pub advance_up : (b : Burst) (n : ℕ) → b.increments ≡ true → burst_len b ≡ n → advance b ≡ n
 advance_up b n e len = rw e len
@@ -98,8 +75,7 @@ touched_fixed b a n e size beats addr = rw (e, size, beats, addr) (sym (one_agai
 -- the addresses of such a burst, or of one that stays at its address in beats of one byte
 run_there : (fill : Bool) (b : Burst) (n : ℕ) → b.increments ≡ not fill → burst_len b ≡ n → (fill ≡ true → (b.size ≡ 1) × (b.beats ≡ n))
     → (touched b ≡ run_of fill b.addr n) × (advance b ≡ way fill n) × (span_of b ≡ span fill n)
-run_there false b n up len one = (touched_up b up ∙ ap (range_with_len b.addr) len, rw up len, rw up len)
-run_there true b n still len one = let w = one refl in (touched_fixed b b.addr n still w.0 w.1 refl, rw still refl, rw still w.0)
+run_there fill b n h h2 h3 = grind (arith, touched_up, touched_fixed)
 
 -- bursts of n bytes at both ends, in beats of b bytes, with both increments, and of a fill with that of the destination
 -- alone; from multiples of b on, they are the same on each bus
@@ -142,13 +118,7 @@ reset_accepted = refl
 
 -- a bus that is as wide as its beats accepts it
 accepted_by : (w c : ℕ) → w / 2 % 8 ≡ c → w / 2 ^ 15 % 8 ≡ c → is_control w ≡ true → (bus : Bus) → 2 ^ c ≤ widest_beat bus → accepts bus w ≡ true
-accepted_by w c a b valid Ideal h = valid
-accepted_by w c a b valid (Chip width) h =
-    let low : nat_le c (bus_code width) ≡ true = le-leb c (bus_code width) (elim (cases_lt (bus_code width) c) [
-      | inl less ↦ absurd (omega (arith, h, pow_below (bus_code width) c less))
-      | inr more ↦ more
-    ]) in
-    rw (a, b, low) valid
+accepted_by w c h h2 h3 bus h4 = grind (arith, le-leb, cases_lt, pow_below)
 
 -- the fields of a word with source increment i, size code c and length code l
 word_moves : (fill : Bool) (w i c l b n : ℕ) → w ≡ i + 2 * c + 16 * l + 2 ^ 14 + 2 ^ 15 * c + 2 ^ 18 * l → i < 2 → (i == 1) ≡ not fill → (fill ≡ true → c ≡ 0)
@@ -186,8 +156,7 @@ word_moves fill w i c l beat n e low rising one hc hl p h =
 
 -- a size has between 1 and 16 bytes, and a code of at most 4
 bounded : (size : BeatSize) → (1 ≤ beat_bytes size) × (beat_bytes size ≤ 16) × (size_code size ≤ 4)
-bounded One = (omega arith, omega arith, omega arith)
-bounded size = (omega arith, omega arith, omega arith)
+bounded size = grind (arith)
 
 beat : (size : BeatSize) → IsBeat false size
 unfolding bits_of end_bits
@@ -227,8 +196,7 @@ mod_sum a x c e f =
     sym (add-mod-mod a x c) ∙ ap (λ (k : ℕ). (a + k) % c) f ∙ ap (λ (k : ℕ). k % c) none ∙ e
 
 pub mod_way : (fill : Bool) (x c : ℕ) → x % c ≡ 0 → way fill x % c ≡ 0
-mod_way false x c e = e
-mod_way true x c e = zero-mod c
+mod_way fill x c h = grind (arith, zero-mod)
 
 -- the beats of a piece are no wider than the bus, and divide both addresses
 pub record Divides (bus : Bus) (p : Piece) (b : ℕ) : Type 0 where
@@ -237,15 +205,10 @@ pub record Divides (bus : Bus) (p : Piece) (b : ℕ) : Type 0 where
   pub dst : p.dst % b ≡ 0
 
 fits_divides : (bus : Bus) (b : ℕ) (p : Piece) → fits bus b p ≡ true → Divides bus p b
-fits_divides bus b p e =
-    let long = and_parts _ (nat_le b p.len) e in
-    let dst = and_parts _ (p.dst % b == 0) long.0 in
-    let src = and_parts (nat_le b (widest_beat bus)) _ dst.0 in
-    record { narrow = leb-true b (widest_beat bus) src.0; src = eqb-true (p.src % b) 0 src.1; dst = eqb-true (p.dst % b) 0 dst.1 }
+fits_divides bus b p e = grind (arith, and_parts, leb-true, eqb-true)
 
 pub some_beat : (bus : Bus) → 1 ≤ widest_beat bus
-some_beat Ideal = omega arith
-some_beat (Chip width) = pow_pos (bus_code width)
+some_beat bus = grind (arith, pow_pos)
 
 ones : (bus : Bus) (p : Piece) → Divides bus p 1
 ones bus p = record { narrow = some_beat bus; src = mod-one p.src; dst = mod-one p.dst }
@@ -267,5 +230,4 @@ one_beat false = beat One
 -- the word of two ends, by whether the source's address increments
 pub both_ends : (rises : Bool) (size : BeatSize) (k : ℕ)
     → bits_of (record { src = burst_end rises size k; dst = burst_end true size k }) ≡ control_word (not rises) size k
-both_ends false size k = refl
-both_ends true size k = refl
+both_ends rises size k = grind (arith)

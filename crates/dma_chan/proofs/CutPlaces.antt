@@ -27,20 +27,16 @@ run_of false a n = range_with_len a n
 run_of true a n = replicate n a
 
 pub way_zero : (fill : Bool) → way fill 0 ≡ 0
-way_zero false = refl
-way_zero true = refl
+way_zero fill = grind (arith)
 
 pub way_add : (fill : Bool) (m n : ℕ) → way fill (m + n) ≡ way fill m + way fill n
-way_add false m n = refl
-way_add true m n = refl
+way_add fill m n = grind (arith)
 
 pub length_run : (fill : Bool) (a n : ℕ) → length (run_of fill a n) ≡ n
-length_run false a n = length-range_with_len a n
-length_run true a n = length-replicate n a
+length_run fill a n = grind (arith, length-range_with_len, length-replicate)
 
 pub run_add : (fill : Bool) (a m n : ℕ) → run_of fill a (m + n) ≡ run_of fill a m ++ run_of fill (a + way fill m) n
-run_add false a m n = range_add a m n
-run_add true a m n = let e : a + 0 ≡ a = omega arith in rw e (sym (replicate-append-replicate m n a))
+run_add fill a m n = grind (arith, range_add, replicate-append-replicate)
 
 -- the addresses that pieces read, and those that they write
 abbrev pub read_by : List Piece → List ℕ
@@ -139,9 +135,7 @@ fewer_than (s ∷ ss) a b rest n all few last fits fewer = omega (arith, fewer (
 
 pub pieces_right : (ss ds : List Segment) → AllByRecursion IsRange ss → AllByRecursion IsRange ds → byte_count ss ≡ byte_count ds → byte_count ss ≤ 2 ^ 20
     → Pieces ss ds (pieces ss ds)
-pieces_right [] ds all rest same below =
-    let e : ds ≡ [] = nothing_left ds rest (sym same) in
-    record { sources = refl; destinations = rw e refl; fit = tt; few = omega arith; fewer = λ z. absurd (omega arith) }
+pieces_right [] ds all rest same below = grind (arith, nothing_left)
 pieces_right (s ∷ ss) ds all rest same below =
     let cut = cut_right s.addr s.len ds all.0.0 (omega arith) all.0.1 (omega arith) rest in
     let r = pieces_right ss (cut_one s.addr s.len ds).1 all.1 cut.rest (omega (arith, cut.totals)) (omega arith) in

@@ -7,6 +7,7 @@ pub mod KeptBytes
 pub mod RunAlone
 pub mod CutPlaces
 pub mod PieceCode
+pub mod PiecesInTurn
 pub mod TreeWalk
 pub mod ControlWords
 pub mod TreeCosts
@@ -21,6 +22,7 @@ pub mod BodyMoves
 pub mod ZeroBodies
 pub mod BlockRows
 pub mod BodyBlocks
+pub mod BodyJumps
 pub mod RoundCounts
 pub mod WrittenRanges
 pub mod StepsTaken

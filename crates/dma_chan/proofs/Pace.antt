@@ -23,16 +23,10 @@ use Rattle.dma_chan.proofs.{LayerLaws.step_is, LayerLaws.turn_reports, MemberAct
 
 module _ (t : Descriptor) (h : IsTransfer t) where
   end_late : (n : ℕ) → member t n ≡ End → cost t ≤ n + 1
-  end_late n is = elim (cases_lt n (cost t)) [
-    | inl l ↦ omega (arith, (shape_is t h).end_only n l is)
-    | inr l ↦ omega arith
-  ]
+  end_late n is = grind (arith, cases_lt, shape_is)
 
   late_ends : (n : ℕ) → cost t ≤ n + 1 → member t n ≡ End
-  late_ends n late = elim (cases_lt n (cost t)) [
-    | inl l ↦ let last : n ≡ cost t - 1 = omega (arith, l, late) in ap (member t) last ∙ (shape_is t h).end_last
-    | inr l ↦ (past_end t n l).0
-  ]
+  late_ends n late = grind (arith, cases_lt, shape_is, past_end)
 
   wait_there : (e : ℕ) → t.wait ≡ Some e → member t 0 ≡ Wfe e false
   wait_there e some = subst (λ (w : Option ℕ). IfSome w (λ d. member t 0 ≡ Wfe d false)) some (shape_is t h).wait_first
@@ -44,18 +38,10 @@ module _ (t : Descriptor) (h : IsTransfer t) where
       (only.0, only.1, cc)
 
   signal_there : (n e : ℕ) → n + 2 ≡ cost t → t.signal ≡ Some e → member t n ≡ Sev e
-  signal_there n e late some =
-      let last = subst (λ (w : Option ℕ). IfSome w (λ d. (2 ≤ cost t) × (member t (cost t - 2) ≡ Sev d))) some (shape_is t h).signal_last in
-      let place : n ≡ cost t - 2 = omega (arith, late) in
-      ap (member t) place ∙ last.1
+  signal_there n e late some = grind (arith, shape_is)
 
 pub order_is : OrderIs
-order_is t h = record {
-  some = (shape_is t h).some;
-  ends = λ n. (end_late t h n, late_ends t h n);
-  waits = λ n e invalid. (wait_here t h n e invalid, λ w. ap (member t) w.0 ∙ wait_there t h e w.1 ∙ ap (Wfe e) (sym w.2));
-  signals = λ n e. ((shape_is t h).signal_only n e, λ w. signal_there t h n e w.0 w.1);
-}
+order_is t h = grind (arith, shape_is, end_late, late_ends, wait_here, wait_there, signal_there)
 
 -- ---- the steps of a channel
 
@@ -73,9 +59,7 @@ module _ (t : Descriptor) (n : ℕ) (image : List ℕ) (c : ChannelValue) (h : I
 
   burst_there : (i : ChipInsn) (places : List ℕ) → member t n ≡ i
       → Places (burst_by i (at t n).registers.ccr) places ≡ take (burst t n) (drop (stored_after t n) places)
-  burst_there i places is =
-      ap (λ (k : ℕ). Places k places) (ap (λ (j : ChipInsn). burst_by j (at t n).registers.ccr) (sym is) ∙ at_burst t n)
-      ∙ ap (λ (k : ℕ). take (burst t n) (drop k places)) (at_stored t n)
+  burst_there i places is = grind (arith, at_burst, at_stored)
 
   reads_there : member t n ≡ Ld → read_next c ≡ read_places t n
   reads_there is =
@@ -153,9 +137,7 @@ module _ (t : Descriptor) (image : List ℕ) (flags : List Bool) (h : IsTransfer
   -- an answer before the last instruction
   answers : (n : ℕ) (u : ChanTurn) → n + 1 < cost t → AnswerImplies t n [] (shared (now n)) u → u ≡ Moved
   answers n Moved l r = refl
-  answers n (Waiting e) l r =
-      let only = (shape_is t h).wait_only n e r.0.0 r.0.1 in
-      let both = sym r.1 ∙ set_at n e only.0 only.1 in absurd cc
+  answers n (Waiting e) l r = grind (arith, shape_is)
   answers n Ended l r = absurd (omega (arith, end_late t h n r, l))
   answers n (Fault DataReadErr) l r = let both = sym (none_marked _ (read_places t n)) ∙ r.1 in absurd cc
   answers n (Fault DataWriteErr) l r = let both = sym (none_marked _ (written_places t n)) ∙ r.1 in absurd cc

@@ -1,5 +1,5 @@
 -- A step depends on no byte but those that it reads.
-use Rattle.std.proofs.Common.{◌≡◌, ◌∷◌, ℕ, ◌+◌, Bool, true, false, ◌&&◌, cond, List, [], length, take, get_or, Result, Ok, Err, refl, sym, ap, ◌∙◌, arith}
+use Rattle.std.proofs.Common.{◌≡◌, ◌∷◌, ℕ, ◌+◌, Bool, false, ◌&&◌, cond, List, [], length, take, get_or, Result, Ok, Err, refl, ap, ◌∙◌, arith}
 use Rattle.std.specs.{Prelude.nat_lt, Prelude.slice_index_or, List.Contains}
 use Rattle.std.proofs.lemmas.List.Elements.{Contains-append_right}
 use Rattle.dma_insn.specs.declared.chip.ChipInsn.TheVariants.{Mov, Ld, St, LpEnd, Sev, Wfe, StoreZeros, AddHalfword, LoopAgain}
@@ -10,7 +10,7 @@ use Rattle.dma_mem.proofs.PageImages.{put_none}
 use Rattle.dma_chan.specs.Bursts.{burst_len, touched, writes_of, zeros_of, reaches}
 use Rattle.dma_chan.specs.Exec.{State, act, buffer_size, counter_of, destination_of, exec_fetched, read_at, source_of, state}
 use Rattle.dma_chan.specs.Channel.{ChannelValue, after_turn, ahead_of, step_of, stored_by}
-use Rattle.dma_chan.specs.{declared.exec.Registers.Registers, declared.turn.ChanTurn.ChanTurn, declared.turn.ChanTurn.TheVariants.Moved}
+use Rattle.dma_chan.specs.{declared.exec.Registers.Registers, declared.turn.ChanTurn.ChanTurn}
 use Rattle.dma_chan.specs.{declared.turn.FaultKind.FaultKind, Bus.accepts, Reads.AgreeAt, Reads.ReadsNoOther, Reads.read_by}
 
 -- images with the same bytes at some places give the same bytes there
@@ -34,12 +34,10 @@ record Alike (x y : List ℕ) (p q : ChanTurn × State) : Type 0 where
 -- nothing is written
 same : (turn : ChanTurn) (r : Registers) (buffer : List ℕ) (flags : List Bool) (x y : List ℕ)
     → Alike x y (turn, state r buffer x flags) (turn, state r buffer y flags)
-same turn r buffer flags x y =
-    record { turn = refl; registers = refl; buffer = refl; flags = refl; writes = []; first = sym (put_none x); second = sym (put_none y) }
+same turn r buffer flags x y = grind (arith, put_none)
 
 either : (b : Bool) (x y : List ℕ) (p q r s : ChanTurn × State) → Alike x y p r → Alike x y q s → Alike x y (cond b p q) (cond b r s)
-either true x y p q r s h k = h
-either false x y p q r s h k = k
+either b x y p q r s h h2 = grind (arith)
 
 act_alike : (marks : MarkList) (i : ChipInsn) (r : Registers) (buffer x y : List ℕ) (flags : List Bool) → AgreeAt (read_by (Ok i) r) x y
     → Alike x y (act marks i (state r buffer x flags)) (act marks i (state r buffer y flags))
@@ -79,8 +77,7 @@ fetched_alike marks (Err kind) r buffer x y flags h = same _ _ buffer flags x y
 
 turned_alike : (turn : ChanTurn) (s u : State) (n : ℕ) (c : ChannelValue) → s.registers ≡ u.registers → s.buffer ≡ u.buffer
     → after_turn turn s n c ≡ after_turn turn u n c
-turned_alike Moved s u n c e f = rw (e, f) refl
-turned_alike turn s u n c e f = refl
+turned_alike turn s u n c h h2 = grind (arith)
 
 pub reads_no_other : ReadsNoOther
 reads_no_other marks c x y flags h =

@@ -1,7 +1,7 @@
 -- The fields of a head that is read are those of the head that was written.
-use Rattle.std.proofs.Common.{◌≡◌, ℕ, ◌<◌, ◌^◌, Bool, true, false, not, eqb, List, ◌++◌, get_or, drop, refl, subst, sym, arith}
+use Rattle.std.proofs.Common.{◌≡◌, ℕ, ◌<◌, ◌^◌, Bool, not, eqb, List, ◌++◌, get_or, drop, refl, subst, sym, arith}
 use Rattle.std.proofs.lemmas.Nat.{from_le_bytes-to_le_bytes_2, from_le_bytes-to_le_bytes_4, from_le_bytes-to_le_bytes_8}
-use Rattle.std.specs.Prelude.{Option, Some, None, is_some, unwrap_or, IfSome}
+use Rattle.std.specs.Prelude.{Option, is_some, unwrap_or, IfSome}
 use Rattle.std.specs.Int.{w16, w32, w64, from_le_bytes}
 use Rattle.dma_insn.specs.ControlWord.{flag}
 use Rattle.dma_chan.specs.{declared.save.head.Head.Head, Saved.head_bytes, Saved.register_bytes, inner.Saves.HasHeadRanges}
@@ -23,8 +23,7 @@ pub record HasFieldsOf (h : Head) (bytes : List ℕ) : Type 0 where
   pub program_len : from_le_bytes w16 (drop 46 bytes) ≡ h.program_len
 
 cost_in_range : (cost : Option ℕ) → IfSome cost (λ n. n < 2 ^ 32) → unwrap_or cost 0 < 2 ^ 32
-cost_in_range None h = omega arith
-cost_in_range (Some n) h = h
+cost_in_range cost h = grind (arith)
 
 written : (h : Head) (rest : List ℕ) → HasHeadRanges h → HasFieldsOf h (head_bytes h ++ rest)
 unfolding head_bytes register_bytes
@@ -50,5 +49,4 @@ head_fields h rest bytes r e = subst (HasFieldsOf h) (sym e) (written h rest r)
 
 -- A flag's byte is read as the flag.
 pub flag_back : (b : Bool) → not (eqb (flag b) 0) ≡ b
-flag_back true = refl
-flag_back false = refl
+flag_back b = grind (arith)

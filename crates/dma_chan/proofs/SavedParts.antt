@@ -1,5 +1,5 @@
 -- A save is the save of the channel that its parts make, and a channel's save has that channel's parts.
-use Rattle.std.proofs.Common.{◌≡◌, ◌≢◌, ℕ, ◌+◌, ◌^◌, ◌<◌, ◌≤◌, Bool, true, false, cond, List, ◌++◌, length, Option, Some, None, refl, sym, ◌∙◌, append_assoc}
+use Rattle.std.proofs.Common.{◌≡◌, ◌≢◌, ℕ, ◌+◌, ◌^◌, ◌<◌, ◌≤◌, Bool, cond, List, ◌++◌, length, Option, Some, None, refl, sym, ◌∙◌, append_assoc}
 use Rattle.std.proofs.Common.{arith}
 use Rattle.std.proofs.lemmas.List.{take_at, drop_at, length-append, length-take, length-drop, nil_from_length}
 use Rattle.std.specs.{Prelude.is_some, Prelude.IfSome, Int.w32, Int.to_le_bytes}
@@ -15,17 +15,14 @@ head_len h = refl
 -- ---- from the parts to the channel
 
 is_loaded_again : (b : Bool) (p : ProgramValue) → is_some (cond b (Some p) None) ≡ b
-is_loaded_again true p = refl
-is_loaded_again false p = refl
+is_loaded_again b p = grind (arith)
 
 cost_again : (b : Bool) (h : Head) (bytes : List ℕ) → LoadsWhole b h → cost_of_program (cond b (Some (record { bytes = bytes; cost = h.cost })) None) ≡ h.cost
-cost_again true h bytes l = refl
-cost_again false h bytes l = sym l.0
+cost_again b h bytes h1 = grind (arith)
 
 code_again : (b : Bool) (h : Head) (bytes : List ℕ) → length bytes ≡ h.program_len → LoadsWhole b h
     → bytes_of_program (cond b (Some (record { bytes = bytes; cost = h.cost })) None) ≡ bytes
-code_again true h bytes e l = refl
-code_again false h bytes e l = sym (nil_from_length bytes (e ∙ l.1))
+code_again b h bytes h1 h2 = grind (arith, nil_from_length)
 
 buffer_len : (save : List ℕ) (h : Head) → FitsIn (length save) h → length (buffer_in save h) ≡ h.buffer_len
 buffer_len save h f = simp (length-take, length-drop) (omega (arith, f.total))
@@ -34,62 +31,36 @@ program_len : (save : List ℕ) (h : Head) → FitsIn (length save) h → length
 program_len save h f = simp (length-take, length-drop) (omega (arith, f.total))
 
 head_again : (save : List ℕ) (h : Head) → FitsIn (length save) h → head_of (channel_in save h) ≡ h
-head_again save h f =
-    let code = code_again h.is_loaded h (program_in save h) (program_len save h f) f.loads in
-    let loaded = is_loaded_again h.is_loaded (record { bytes = program_in save h; cost = h.cost }) in
-    let cost = cost_again h.is_loaded h (program_in save h) f.loads in
-    rw (loaded, cost, code, buffer_len save h f, program_len save h f) refl
+head_again save h f = grind (arith, code_again, program_len, is_loaded_again, cost_again, buffer_len)
 
 -- What has the parts of a save and is written with them is the save of the channel with these parts.
 pub sealed_is_saved : (save : List ℕ) (h : Head) → FitsIn (length save) h
     → sealed (head_bytes h ++ buffer_in save h ++ program_in save h) ≡ saved (channel_in save h)
 unfolding saved
-sealed_is_saved save h f =
-    let code = code_again h.is_loaded h (program_in save h) (program_len save h f) f.loads in
-    rw (head_again save h f, code) refl
+sealed_is_saved save h f = grind (arith, code_again, program_len, head_again)
 
 -- ---- from the channel to the parts
 
 program_again : (p : Option ProgramValue) → cond (is_some p) (Some (record { bytes = bytes_of_program p; cost = cost_of_program p })) None ≡ p
-program_again None = refl
-program_again (Some p) = refl
+program_again p = grind (arith)
 
 cost_fits : (pc : ℕ) (p : Option ProgramValue) → IfSome p (IsLoadedAt pc) → IfSome (cost_of_program p) (λ n. n < 2 ^ 32)
-cost_fits pc None l = tt
-cost_fits pc (Some p) l = l.cost
+cost_fits pc p h = grind (arith)
 
 code_fits : (pc : ℕ) (p : Option ProgramValue) → IfSome p (IsLoadedAt pc) → length (bytes_of_program p) ≤ 8192
-code_fits pc None l = omega arith
-code_fits pc (Some p) l = l.limit
+code_fits pc p h = grind (arith)
 
 loads_whole : (p : Option ProgramValue) (h : Head) → IfSome p (IsLoadedAt h.registers.pc) → h.cost ≡ cost_of_program p
     → h.program_len ≡ length (bytes_of_program p)
     → LoadsWhole (is_some p) h
-loads_whole None h l cost len = (cost, len)
-loads_whole (Some p) h l cost len = omega (arith, l.offset)
+loads_whole p h h1 h2 h3 = grind (arith)
 
 pub head_ranges : (c : ChannelValue) → IsChannelValue c → HasHeadRanges (head_of c)
-head_ranges c v = record {
-  registers = v.registers;
-  taken = v.taken;
-  stored = omega (arith, v.taken, v.few);
-  cost = cost_fits c.registers.pc c.program v.program;
-  buffer_len = omega (arith, v.buffer_limit);
-  program_len = omega (arith, code_fits c.registers.pc c.program v.program);
-}
+head_ranges c v = grind (arith, cost_fits, buffer_len, program_len, code_fits)
 
 -- a channel on another bus has the same save, and still satisfies what every channel does
 pub value_on : (bus : Bus) (c : ChannelValue) → IsChannelValue c → IsChannelValue (on_bus bus c)
-value_on bus c v =
-    let r = v.registers in
-    record {
-      registers = record { pc = r.pc; sar = r.sar; dar = r.dar; ccr = r.ccr; control = r.control; lc0 = r.lc0; lc1 = r.lc1 };
-      program = v.program;
-      buffer_limit = v.buffer_limit;
-      buffer = v.buffer;
-      taken = v.taken;
-      few = v.few;
-    }
+value_on bus c v = grind arith
 
 pub saved_on : (bus : Bus) (c : ChannelValue) → saved (on_bus bus c) ≡ saved c
 unfolding saved head_bytes register_bytes
@@ -148,22 +119,13 @@ saved_parts_on bus c save v e = saved_parts (on_bus bus c) save (value_on bus c 
 
 loaded_again : (b : Bool) (h : Head) (bytes : List ℕ) → length bytes ≡ h.program_len → h.program_len ≤ 8192 → LoadsWhole b h → AreBytes bytes
     → IfSome h.cost (λ n. n < 2 ^ 32) → IfSome (cond b (Some (record { bytes = bytes; cost = h.cost })) None) (IsLoadedAt h.registers.pc)
-loaded_again true h bytes e limit l all cost = record { limit = omega (arith, e, limit); bytes = all; offset = omega (arith, e, l); cost = cost }
-loaded_again false h bytes e limit l all cost = tt
+loaded_again b h bytes h1 h2 h3 h4 h5 = grind (arith)
 
 -- The parts of a save with a head whose fields are in their ranges make a channel.
 pub parts_make_channel : (save : List ℕ) (h : Head) → FitsIn (length save) h → HasHeadRanges h → AreBytes (buffer_in save h) → AreBytes (program_in save h)
     → IsChannelValue (channel_in save h)
-parts_make_channel save h f r buffer program = record {
-  registers = r.registers;
-  program = loaded_again h.is_loaded h (program_in save h) (program_len save h f) f.program f.loads program r.cost;
-  buffer_limit = omega (arith, buffer_len save h f, f.buffer);
-  buffer = buffer;
-  taken = r.taken;
-  few = f.few;
-}
+parts_make_channel save h f r buffer program = grind (arith, loaded_again, program_len, buffer_len)
 
 pub loaded_at : (p : Option ProgramValue) (pc : ℕ) → length (bytes_of_program p) ≤ 8192 → AreBytes (bytes_of_program p)
     → (p ≢ None → pc ≤ length (bytes_of_program p)) → IfSome (cost_of_program p) (λ n. n < 2 ^ 32) → IfSome p (IsLoadedAt pc)
-loaded_at None pc limit bytes offset cost = tt
-loaded_at (Some p) pc limit bytes offset cost = record { limit = limit; bytes = bytes; offset = offset (λ e. absurd cc); cost = cost }
+loaded_at p pc h h2 h3 h4 = grind (arith)

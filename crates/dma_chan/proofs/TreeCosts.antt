@@ -1,17 +1,16 @@
 -- How many instructions running a tree executes, counted without writing them out, and a bound for a transfer's.
-use Rattle.std.proofs.Common.{◌≡◌, ℕ, zero, suc, ◌+◌, ◌*◌, ◌/◌, ◌%◌, ◌^◌, ◌≤◌, List, [], ◌∷◌, length, map, Bool, Option, Some, None, refl, ap, ◌∙◌, arith}
+use Rattle.std.proofs.Common.{◌≡◌, ℕ, zero, suc, ◌+◌, ◌*◌, ◌≤◌, List, [], ◌∷◌, length, map, Bool, Option, refl, ap, ◌∙◌, arith}
 use Rattle.std.proofs.Common.{length-append}
 use Rattle.std.proofs.Math.Nat.{div-mul-le_self}
-use Rattle.dma_insn.specs.{declared.insn.Counter.TheVariants.Lc0, declared.insn.Counter.TheVariants.Lc1, declared.chip.ChipInsn.ChipInsn}
-use Rattle.dma_insn.specs.{declared.chip.ChipInsn.TheVariants.LpEnd, declared.control.BeatSize.BeatSize, ControlWord.beat_bytes}
+use Rattle.dma_insn.specs.{declared.chip.ChipInsn.ChipInsn}
+use Rattle.dma_insn.specs.{declared.control.BeatSize.BeatSize, ControlWord.beat_bytes}
 use Rattle.dma_mem.specs.Places.{Descriptor}
-use Rattle.dma_chan.specs.Compiled.{pieces_of, members_on, cost, cost_on, tree_on, piece_tree, parts, where_some, under, bursts, body, beat_of, control_word}
+use Rattle.dma_chan.specs.Compiled.{members_on, cost, cost_on, tree_on, piece_tree, parts, where_some, bursts, beat_of}
 use Rattle.dma_chan.specs.Compiled.{wait_tree, signal_tree}
-use Rattle.dma_chan.specs.Tree.{Tree, One, Then, Nothing, Repeat, bytes_of, unrolled, times, turn_of, in_order}
+use Rattle.dma_chan.specs.Tree.{Tree, One, Then, Nothing, Repeat, unrolled, times, in_order}
 use Rattle.dma_chan.specs.Layer.{CostIs, CostOnBus}
 use Rattle.dma_chan.specs.{declared.bus.Bus.Bus, declared.bus.Bus.TheVariants.Ideal, declared.pieces.Piece.Piece, inner.Compiling.cost_of}
 use Rattle.dma_chan.proofs.{CutPlaces.read_by, CutPlaces.run_of, CutPlaces.length_run, PieceCode.cut_well, PieceCode.pieces_few, ControlWords.beat_right}
-use Rattle.dma_insn.specs.declared.control.BeatSize.TheVariants as sizes
 
 -- the number by the tree alone
 abbrev pub counted : Tree → ℕ
@@ -28,11 +27,7 @@ length_unrolled : (t : Tree) → length (unrolled t) ≡ counted t
 length_unrolled (One i) = refl
 length_unrolled (Then a b) = length-append (unrolled a) (unrolled b) ∙ omega (arith, length_unrolled a, length_unrolled b)
 length_unrolled Nothing = refl
-length_unrolled (Repeat c n t) =
-    let is = turn_of c (length (bytes_of t)) (unrolled t) in
-    let e : length is ≡ counted t + 1 = length-append (unrolled t) (LpEnd c (length (bytes_of t)) ∷ []) ∙ omega (arith, length_unrolled t) in
-    let all : length (times n is) ≡ n * (counted t + 1) = length_times n is ∙ ap (λ (k : ℕ). n * k) e in
-    omega (arith, all)
+length_unrolled (Repeat c n t) = grind (arith, length-append, length_times, length_unrolled t)
 
 pub cost_counted : (t : Tree) → cost_of t ≡ counted t
 unfolding cost_of
@@ -50,37 +45,18 @@ cost_of_tree bus t = length_unrolled (tree_on bus t)
 -- ---- the bound
 
 some_counted : (n k : ℕ) (t : Tree) → counted t ≤ k → counted (where_some n t) ≤ k
-some_counted zero k t h = omega arith
-some_counted (suc n) k t h = h
+some_counted n k t h = grind (arith)
 
 bursts_counted : (q : ℕ) → counted (bursts q) ≤ 2 + 6 * q
-bursts_counted q =
-    let nested = Repeat Lc0 (q / 256) (Repeat Lc1 256 body) in
-    let rest = Repeat Lc1 (q % 256) body in
-    let many : counted nested ≤ 1 + 1282 * (q / 256) = omega arith in
-    let few : counted rest ≤ 1 + 5 * (q % 256) = omega arith in
-    omega (arith, some_counted (q / 256) (1 + 1282 * (q / 256)) nested many, some_counted (q % 256) (1 + 5 * (q % 256)) rest few)
+bursts_counted q = grind (arith, some_counted)
 
 -- q bursts of 16 beats, each of at least one byte
 bursts_below : (q b : ℕ) → 1 ≤ b → 16 * q ≤ q * (16 * b)
-bursts_below zero b low = omega arith
-bursts_below (suc q) b low = omega (arith, bursts_below q b low)
+bursts_below q b h = grind (arith)
 
 parts_counted : (fill : Bool) (size : BeatSize) (n : ℕ) → 1 ≤ beat_bytes size → 16 * counted (parts fill size n) ≤ 208 + 6 * n
 unfolding parts
-parts_counted fill size n low =
-    let b = beat_bytes size in
-    let q = n / (16 * b) in
-    let m = n % (16 * b) / b in
-    let l = n % (16 * b) % b in
-    let x = under (control_word fill size 16) (bursts q) in
-    let y = under (control_word fill size m) body in
-    let z = under (control_word fill sizes.One l) body in
-    let one : counted x ≤ 3 + 6 * q = let all = bursts_counted q in omega (arith, all) in
-    let two : counted y ≤ 5 = omega arith in
-    let three : counted z ≤ 5 = omega arith in
-    let whole : 16 * q ≤ n = omega (arith, bursts_below q b low, div-mul-le_self n (16 * b)) in
-    omega (arith, some_counted q (3 + 6 * q) x one, some_counted m 5 y two, some_counted l 5 z three, whole)
+parts_counted fill size n low = grind (arith, bursts_counted, bursts_below, div-mul-le_self, some_counted)
 
 piece_counted : (bus : Bus) (p : Piece) → 16 * counted (piece_tree bus p) ≤ 240 + 6 * p.len
 piece_counted bus p = let all = parts_counted p.fill (beat_of bus p) p.len (beat_right bus p).low in omega (arith, all)
@@ -95,18 +71,10 @@ pieces_counted bus (p ∷ ps) =
     omega (arith, one, more, bytes)
 
 event_counted : (o : Option ℕ) → (counted (wait_tree o) ≤ 1) × (counted (signal_tree o) ≤ 1)
-event_counted None = (omega arith, omega arith)
-event_counted (Some e) = (omega arith, omega arith)
+event_counted o = grind (arith)
 
 pub cost_below : CostOnBus
-cost_below bus t h =
-    let cut = cut_well t h in
-    let bytes : length (read_by (pieces_of t)) ≤ 2 ^ 20 = omega (arith, ap length cut.sources, h.same_length, h.short) in
-    let w = (event_counted t.wait).0 in
-    let s = (event_counted t.signal).1 in
-    let all = pieces_counted bus (pieces_of t) in
-    let few = pieces_few t h in
-    omega (arith, cost_of_tree bus t, w, s, all, few, bytes)
+cost_below bus t h = grind (arith, cut_well, event_counted, pieces_counted, pieces_few, cost_of_tree)
 
 pub cost_is : CostIs
 unfolding cost

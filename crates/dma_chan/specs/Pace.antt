@@ -24,8 +24,8 @@ abbrev pub OrderIs : Type 0
 OrderIs = (t : Descriptor) → IsTransfer t → IsInOrder t
 
 -- a burst of 1 to 256 bytes that lies within the transfer's length
-abbrev pub IsBurst : Descriptor → ℕ → Type 0
-IsBurst t n = (1 ≤ burst t n) × (burst t n ≤ 256) × (stored_after t n + burst t n ≤ size_of t)
+abbrev pub IsBurstWithin : Descriptor → ℕ → Type 0
+IsBurstWithin t n = (1 ≤ burst t n) × (burst t n ≤ 256) × (stored_after t n + burst t n ≤ size_of t)
 
 -- How the number of bytes stored grows: each store adds the length of its burst, and before the last instruction it is
 -- the transfer's length. Only loads and stores move bytes.
@@ -34,8 +34,8 @@ pub record StoresInTurn (t : Descriptor) : Type 0 where
   pub by_store : (n : ℕ) → member t n ≡ St → stored_after t (n + 1) ≡ stored_after t n + burst t n
   pub by_other : (n : ℕ) → member t n ≢ St → stored_after t (n + 1) ≡ stored_after t n
   pub at_most : (n : ℕ) → stored_after t n ≤ size_of t
-  pub load : (n : ℕ) → member t n ≡ Ld → IsBurst t n
-  pub store : (n : ℕ) → member t n ≡ St → IsBurst t n
+  pub load : (n : ℕ) → member t n ≡ Ld → IsBurstWithin t n
+  pub store : (n : ℕ) → member t n ≡ St → IsBurstWithin t n
   pub other : (n : ℕ) → member t n ≢ Ld → member t n ≢ St → burst t n ≡ 0
   pub all : stored_after t (cost t - 1) ≡ size_of t
 

@@ -1,14 +1,11 @@
-use Rattle.std.proofs.Common.{sym, arith, ◌<◌}
+use Rattle.std.proofs.Common.{arith}
 use Rattle.dma_mem.proofs.GapMarks.{barred_gaps}
 use Rattle.dma_chan.specs.Bursts.{span_of}
 use Rattle.dma_chan.proofs.BurstReach.{reaches_gap}
 use Rattle.dma_chan.proofs.bursts.may_touch.Goals as goal
 
 pub returns-then-clear-span-clause-exact : goal.returns-then-clear-span-clause-exact
-returns-then-clear-span-clause-exact g c =
-    let below : c.clear.result < span_of c.args.burst = omega arith in
-    let gap = rw c.span-span.ensures.addr at (c.clear.ensures.next (omega arith)) in
-    sym (reaches_gap c.args.kind (g.M.Ram.loan c.args.memory.now) c.args.marks.now _ c.args.burst c.clear.result c.requires.some.some below gap)
+returns-then-clear-span-clause-exact g c = grind (arith, reaches_gap)
 
 pub returns-then-end-size-clause-lie : goal.returns-then-end-size-clause-lie
 returns-then-end-size-clause-lie g c = λ hit. record {

@@ -38,5 +38,4 @@ loop-piece-preserved c =
     }
 
 pub returns-clause-most : goal.returns-clause-most
-returns-clause-most c = omega
-    (arith, c.loop-piece.invariant.most, c.push_signal.ensures.most, c.push.ensures.len, pieces_few c.args.transfer.now c.of-pieces.ensures.rules)
+returns-clause-most c = grind (arith, pieces_few)

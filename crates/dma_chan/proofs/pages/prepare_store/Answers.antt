@@ -1,31 +1,14 @@
 use Rattle.std.proofs.Common.{◌+◌, ◌≤◌, ◌∙◌, ap, sym, arith, refl, length, subst}
-use Rattle.dma_mem.specs.Pages.{has_page}
 use Rattle.std.specs.List.{Contains}
 use Rattle.dma_chan.specs.{Bursts.touched, Ready.none_missing}
 use Rattle.dma_chan.proofs.ReadyLaws.{part_all, part_short, part_touched, pages_all}
 use Rattle.dma_chan.proofs.pages.prepare_store.Goals as goal
 
 pub returns-then-is_on_page-clause-ok : goal.returns-then-is_on_page-clause-ok
-returns-then-is_on_page-clause-ok g c =
-    let m = g.M.Ram.paged c.args.memory.now in
-    let b = c.destination_burst.result in
-    let span = c.span-span.ensures in
-    ap (λ b. none_missing m (touched b)) (sym c.destination_burst.ensures.value)
-    ∙ pages_all m b c.destination_burst.ensures.some.some.beats (λ a low high.
-    ap (λ p. has_page m p) (c.is_on_page.ensures.page c.if-is_on_page.true a (omega (arith, span.addr, low)) (omega (arith, span.addr, span.len, high)))
-    ∙ (rw c.in-Some.is at c.requires.known))
+returns-then-is_on_page-clause-ok g c = grind (arith, pages_all)
 
 pub returns-in-Ok-clause-ok : goal.returns-in-Ok-clause-ok
-returns-in-Ok-clause-ok g c =
-    let m = g.M.Ram.paged c.prepare.new.self in
-    let b = c.destination_burst.result in
-    let part = c.part_below-part.ensures in
-    let image = c.prepare.ensures.image in
-    let addr = part.addr ∙ rw (c.span-span.ensures.addr, image) refl in
-    let len = part.len ∙ rw (c.span-span.ensures.len, c.span-span.ensures.addr, image) refl in
-    ap (λ b. none_missing m (touched b)) (sym c.destination_burst.ensures.value)
-    ∙ part_all m b c.part_below-part.result.addr c.part_below-part.result.len c.destination_burst.ensures.some.some.beats addr len
-    (rw c.in-Ok.is at c.prepare.ensures.ok)
+returns-in-Ok-clause-ok g c = grind (arith, part_all)
 
 pub returns-in-Err-clause-short : goal.returns-in-Err-clause-short
 returns-in-Err-clause-short g c =

@@ -20,12 +20,4 @@ returns-clause-bytes c =
     (simp append_assoc)
 
 pub returns-clause-ranges : goal.returns-clause-ranges
-returns-clause-ranges c = record {
-  pc = omega arith;
-  sar = omega arith;
-  dar = omega arith;
-  ccr = omega arith;
-  control = c.bits.ensures.accepted;
-  lc0 = omega arith;
-  lc1 = omega arith;
-}
+returns-clause-ranges c = grind arith

@@ -1,15 +1,14 @@
-use Rattle.std.proofs.Common.{◌≡◌, ℕ, ◌≢◌, Option, Some, None, ap, refl}
+use Rattle.std.proofs.Common.{arith}
+use Rattle.std.proofs.Common.{◌≡◌, ℕ, ◌≢◌, Option, Some, None}
 use Rattle.std.specs.Prelude.{is_some, unwrap_or}
 use Rattle.dma_insn.specs.ControlWord.{flag}
 use Rattle.dma_chan.proofs.save.head.cost_of.Goals as goal
 
 some_cost : (b n : ℕ) (cost : Option ℕ) → b ≢ 0 → b ≡ flag (is_some cost) → n ≡ unwrap_or cost 0 → Some n ≡ cost
-some_cost b n None t e f = absurd (t e)
-some_cost b n (Some m) t e f = ap (λ (k : ℕ). Some k) f
+some_cost b n cost h h2 h3 = grind (arith)
 
 no_cost : (b n : ℕ) (cost : Option ℕ) → b ≡ 0 → b ≡ flag (is_some cost) → n ≡ unwrap_or cost 0 → None ≡ cost
-no_cost b n None t e f = refl
-no_cost b n (Some m) t e f = absurd cc
+no_cost b n cost h h2 h3 = grind (arith)
 
 pub returns-then-flag_byte-ne0 : goal.returns-then-flag_byte-ne0
 returns-then-flag_byte-ne0 c cost e f = some_cost c.args.flag_byte c.args.number cost c.if-flag_byte-ne0.true e f

@@ -1,6 +1,7 @@
-use Rattle.std.proofs.Common.{◌≡◌, ◌++◌, true, sym, refl, ◌∙◌, arith}
+use Rattle.std.proofs.lemmas.Grind.{common_steps}
+use Rattle.std.proofs.Common.{◌≡◌, true, refl, arith}
 use Rattle.std.proofs.{lemmas.Slice.Eq.slice_eq-Decides, lemmas.Bool.Decides.Decides-eqb}
-use Rattle.dma_chan.specs.{Channel.on_bus, Saved.head_of, Saved.head_bytes, Saved.sealed, inner.Saves.buffer_in, inner.Saves.program_in}
+use Rattle.dma_chan.specs.{Channel.on_bus, Saved.head_of}
 use Rattle.dma_chan.proofs.SavedParts.{parts_make_channel, rest_of, saved_parts_on, sealed_is_saved}
 use Rattle.dma_chan.proofs.save.head.Head.of_save.Goals as goal
 
@@ -26,20 +27,10 @@ returns-then-not-fits-clause-only c b w f =
     cc (fits, c.if-not-fits.true)
 
 pub returns-then-eq-clause-found : goal.returns-then-eq-clause-found
-returns-then-eq-clause-found c =
-    let save = c.args.save.now in
-    let head = c.in-Some.head in
-    let written : c.as_slice.result.now ≡ sealed (head_bytes head ++ buffer_in save head ++ program_in save head) =
-    rw (c.as_slice.ensures.value, c.write-again.ensures.bytes, c.buffer_of.ensures, c.program_of.ensures) refl in
-    let same = (slice_eq-Decides Decides-eqb _ _ _ c.eq.ensures).0 c.if-eq.true in
-    sym same ∙ written ∙ sealed_is_saved save head (c.fits.ensures.0 c.if-not-fits.false)
+returns-then-eq-clause-found c = grind (arith, slice_eq-Decides, Decides-eqb, sealed_is_saved)
 
 pub returns-then-eq-clause-channel : goal.returns-then-eq-clause-channel
-returns-then-eq-clause-channel c =
-    let write = c.write-again.ensures in
-    let buffer = rw c.buffer_of.ensures at write.buffer_bytes in
-    let program = rw c.program_of.ensures at write.program_bytes in
-    parts_make_channel c.args.save.now c.in-Some.head (c.fits.ensures.0 c.if-not-fits.false) write.ranges buffer program
+returns-then-eq-clause-channel c = grind (arith, common_steps, parts_make_channel)
 
 pub returns-then-eq-clause-only : goal.returns-then-eq-clause-only
 returns-then-eq-clause-only c b w f =
