@@ -1,16 +1,15 @@
 -- What words make is what their reader reads, one after another.
-use Rattle.std.proofs.Common.{◌≡◌, ℕ, true, false, ◌&&◌, nat_le, if◌then◌else◌, List, [], ◌∷◌, ◌++◌, map, refl, ap, ◌∙◌, sym, Option, Some, None, Result}
+use Rattle.std.proofs.Common.{arith}
+use Rattle.std.proofs.Common.{◌≡◌, ℕ, true, false, if◌then◌else◌, List, [], ◌∷◌, ◌++◌, map, refl, ap, ◌∙◌, sym, Option, Some, None, Result}
 use Rattle.std.proofs.Common.{Ok, Err, is_some, unwrap_or, codes}
 use Rattle.std.specs.{Option.ok_or, Option.option_map, Option.option_or, Str.bytes_eq}
 use Rattle.dma_mem.specs.declared.marks.MarkKind.TheVariants.{Reading, Writing}
-use Rattle.dma_mem.specs.{Limits.last_channel}
 use Rattle.dma_script.specs.Arguments.{any_list, any_number, any_segment, behind, bytes, bytes_at, digits, event, fixed, first_reported, kind, list, makes}
 use Rattle.dma_script.specs.Arguments.{meaning, most_line_steps, number, number_or_zero, number_within, Operand, operands, or_empty, ranged, segment, Shape}
 use Rattle.dma_script.specs.Arguments.{source, Spelled, spelled, steps, unless, where_not, within, words_cause}
-use Rattle.dma_script.specs.inner.Reading.{LineRead, begins, ended, event_from, kind_from, read, rest_of, source_from, statement_from, unread}
-use Rattle.dma_script.specs.{Words.bytes_in, Words.list_of, Words.segment_of, Statements.later_line, Statements.statement, Race.job, Race.job_line}
-use Rattle.dma_script.specs.{Race.where_holds, Causes.cause_reported, declared.fault.Cause.Cause}
-use Rattle.dma_script.specs.{declared.race.JobLine.JobLine, declared.statements.Keyword.Keyword, declared.statements.Statement.Statement}
+use Rattle.dma_script.specs.inner.Reading.{LineRead, begins, ended, event_from, kind_from, read, rest_of, source_from, unread}
+use Rattle.dma_script.specs.{Words.bytes_in, Words.list_of, Words.segment_of}
+use Rattle.dma_script.specs.{Causes.cause_reported, declared.fault.Cause.Cause}
 use Rattle.dma_text.specs.Results.{◌>>=◌}
 use Rattle.dma_script.specs.declared.fault.Cause.TheVariants as causes
 use Rattle.dma_script.specs.declared.transfer_line.Origin.TheVariants as origins
@@ -18,28 +17,23 @@ use Rattle.dma_script.specs.declared.transfer_line.Origin.TheVariants as origins
 -- ---- the first of some causes
 
 pub or_none : (test : Option Cause) → option_or test None ≡ test
-or_none None = refl
-or_none (Some cause) = refl
+or_none test = grind (arith)
 
 or_assoc : (a b c : Option Cause) → option_or (option_or a b) c ≡ option_or a (option_or b c)
-or_assoc None b c = refl
-or_assoc (Some cause) b c = refl
+or_assoc a b c = grind (arith)
 
 -- A value made from a result has the cause of that result.
 pub map_reported : {A B : Type 0} (r : Result A Cause) (f : A → B) → cause_reported (r >>= (λ a. Ok (f a))) ≡ cause_reported r
-map_reported (Ok a) f = refl
-map_reported (Err cause) f = refl
+map_reported r f = grind (arith)
 
 -- The cause of a line that was read to its end.
 end_reported : {A : Type 0} (cause : Option Cause) (a : A) → cause_reported (unless cause >>= (λ done. Ok a)) ≡ cause
-end_reported None a = refl
-end_reported (Some cause) a = refl
+end_reported cause a = grind (arith)
 
 found_reported : {A : Type 0} (found : Option (Spelled A))
     → cause_reported (elim found [ None ↦ Err causes.Words | Some found ↦ unless (words_cause (Some found.operands)) >>= (λ none. Ok found.made) ]) ≡
     words_cause (option_map (λ found. found.operands) found)
-found_reported None = refl
-found_reported (Some found) = end_reported (words_cause (Some found.operands)) found.made
+found_reported found = grind (arith, end_reported)
 
 -- The cause of words.
 pub meaning_reported : {A : Type 0} (shape : Shape A) (words : List (List ℕ)) → cause_reported (meaning shape words) ≡ words_cause (operands shape words)
@@ -69,13 +63,7 @@ after form range (Some found) =
 -- One more word.
 push : {A : Type 0} (f r : Option Cause) (operand : Operand) (found : Option (Spelled A))
     → after (option_or f operand.form) (option_or r operand.range) found ≡ after f r (behind (operand ∷ []) found)
-push f r operand None = refl
-push f r operand (Some found) =
-    rw (
-      or_assoc f operand.form (first_reported (map (λ operand. operand.form) found.operands)),
-      or_assoc r operand.range
-          (first_reported (map (λ operand. operand.range) found.operands)),
-    ) refl
+push f r operand found = grind (arith, or_assoc)
 
 -- One more word that has no range.
 push_form : {A : Type 0} (f r cause : Option Cause) (found : Option (Spelled A))
@@ -84,17 +72,14 @@ push_form f r cause found = ap (λ range. after (option_or f cause) range found)
 
 hex_more : (o : Option (List ℕ)) (r : Result (List ℕ) Cause)
     → cause_reported (ok_or o causes.Hex >>= (λ front. r >>= (λ more. Ok (front ++ more)))) ≡ option_or (where_not (is_some o) causes.Hex) (cause_reported r)
-hex_more None r = refl
-hex_more (Some front) r = map_reported r (λ more. front ++ more)
+hex_more o r = grind (arith, map_reported)
 
 behind_none : {A : Type 0} (f r : Option Cause) (found : Option (Spelled A)) → after (option_or f None) r found ≡ after f r (behind [] found)
-behind_none f r None = refl
-behind_none f r (Some found) = rw (or_none f) refl
+behind_none f r found = grind (arith, or_none)
 
 behind_more : {A : Type 0} (operand : Operand) (more : List Operand) (found : Option (Spelled A))
     → behind (operand ∷ []) (behind more found) ≡ behind (operand ∷ more) found
-behind_more operand more None = refl
-behind_more operand more (Some found) = refl
+behind_more operand more found = grind (arith)
 
 -- Hexadecimal words.
 push_hex : {A : Type 0} (f r : Option Cause) (words : List (List ℕ)) (found : Option (Spelled A))
@@ -122,9 +107,7 @@ wrong (list next) f r words = wrong (next _) _ _ _
 wrong (steps next) f r [] = wrong (next 1) f r []
 wrong (steps next) f r (word ∷ words) = wrong (next _) _ _ _
 wrong (bytes next) f r words = wrong (next _) _ _ _
-wrong (fixed text rest) f r words =
-    elim (begins text words) as (λ is. whole (read rest (if is then missing f r (rest_of words) else missing f r words)) ≡ Err causes.Words)
-    [ true ↦ wrong rest f r (rest_of words) | false ↦ wrong rest f r words ]
+wrong (fixed text rest) f r words = grind (arith, wrong rest f r (rest_of words), wrong rest f r words)
 wrong (event name next) f r words =
     elim (begins name words) as (λ is. then_read next (event_from is (missing f r words)) ≡ Err causes.Words)
     [ true ↦ wrong (next _) _ _ _ | false ↦ wrong (next None) f r words ]
@@ -211,40 +194,10 @@ agrees (kind next) f r (word ∷ words) =
 
 at_once : {A : Type 0} (found : Option (Spelled A))
     → after None None found ≡ elim found [ None ↦ Err causes.Words | Some found ↦ unless (words_cause (Some found.operands)) >>= (λ none. Ok found.made) ]
-at_once None = refl
-at_once (Some found) = refl
+at_once found = grind (arith)
 
 -- ---- lines
 
 -- What is read of words is what they make.
 pub words_agree : {A : Type 0} (shape : Shape A) (words : List (List ℕ)) → whole (read shape (unread words)) ≡ meaning shape words
 words_agree shape words = agrees shape None None words ∙ at_once (spelled shape words)
-
-shape_agrees : (shape : Result (Shape Statement) Cause) (words : List (List ℕ))
-    → ((shape >>= (λ shape. Ok (read shape (unread words)))) >>= whole) ≡ (shape >>= (λ shape. meaning shape words))
-shape_agrees (Ok shape) words = words_agree shape words
-shape_agrees (Err cause) words = refl
-
--- Any line after the first.
-pub statement_agrees : (keyword : Keyword) (words : List (List ℕ)) → (statement_from keyword (unread words) >>= whole) ≡ later_line keyword words
-statement_agrees keyword words = shape_agrees (statement keyword) words
-
--- A job.
-abbrev pub job_of : ℕ → ℕ → ℕ → Result JobLine Cause
-job_of first last turns =
-    where_holds (nat_le first last && nat_le last last_channel) causes.Range >>= (λ in_range. Ok (record { first = first; last = last; turns = turns }))
-
-job_made : (first last turns : ℕ) (done : Result (Unit {0}) Cause)
-    → (done >>= (λ u. job_of first last turns)) ≡
-    ((done >>= (λ u. let job : JobLine = record { first = first; last = last; turns = turns } in Ok job)) >>=
-    (λ job. where_holds (nat_le job.first job.last && nat_le job.last last_channel) causes.Range >>= (λ in_range. Ok job)))
-job_made first last turns (Ok u) = refl
-job_made first last turns (Err cause) = refl
-
-pub job_agrees : (words : List (List ℕ)) → let found = read job (unread words) in
-    (ended found.1 >>= (λ done. job_of found.0.first found.0.last found.0.turns)) ≡ job_line words
-job_agrees words =
-    let found = read job (unread words) in
-    job_made found.0.first found.0.last found.0.turns (ended found.1)
-    ∙ ap (λ job. job >>= (λ job. where_holds (nat_le job.first job.last && nat_le job.last last_channel) causes.Range >>= (λ in_range. Ok job)))
-    (words_agree job words)

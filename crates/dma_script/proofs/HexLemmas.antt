@@ -1,11 +1,11 @@
 -- The bytes of hexadecimal words, pair by pair.
-use Rattle.std.proofs.Common.{◌≡◌, ℕ, ◌≤◌, ◌+◌, ◌*◌, inl, inr, true, false, not, ◌==◌, eqb, List, [], ◌∷◌, ◌++◌, length, drop, filter}
-use Rattle.std.proofs.Common.{get_or, refl, ap, ◌∙◌, sym, arith, append_assoc, append-nil, Option, Some, None, Result, Ok, Err}
+use Rattle.std.proofs.Common.{◌≡◌, ℕ, ◌≤◌, ◌+◌, ◌*◌, true, false, not, ◌==◌, List, [], ◌∷◌, ◌++◌, length, drop, filter}
+use Rattle.std.proofs.Common.{get_or, refl, ap, ◌∙◌, sym, arith, append_assoc, append-nil, Option, Some, None, Result, Ok}
 use Rattle.std.proofs.{lemmas.Bool.eqb-true, lemmas.Bool.false_from_ne_true, lemmas.Bool.or_cases, lemmas.Bool.Decides.nat_tests}
 use Rattle.std.specs.{List.onto_first, List.slice_split, Option.ok_or, Option.option_map, Option.option_and_then}
 use Rattle.dma_text.specs.{Lines.is_blank, Results.◌>>=◌}
 use Rattle.dma_script.specs.Words.{bytes_in, hex_digit_of, hex_pair_of, words_of}
-use Rattle.dma_script.specs.{Arguments.bytes_at, inner.Digits.bytes_after, declared.fault.Cause.Cause, declared.fault.Cause.TheVariants.Hex}
+use Rattle.dma_script.specs.{inner.Digits.bytes_after, declared.fault.Cause.Cause, declared.fault.Cause.TheVariants.Hex}
 
 -- bytes read before, and then those of a hexadecimal word; `Hex` for any other word
 abbrev hex_after : List ℕ → List ℕ → Result (List ℕ) Cause
@@ -23,22 +23,13 @@ some_word a word = grind (arith, nat_tests)
 -- One more word.
 bytes_after_word : (before word : List ℕ) (words : List (List ℕ))
     → bytes_after before (word ∷ words) ≡ (hex_after before word >>= (λ bytes. bytes_after bytes words))
-bytes_after_word before word words =
-    elim (ok_or (bytes_in word) Hex) as
-    (λ r. ((r >>= (λ front. bytes_at words >>= (λ rest. Ok (front ++ rest)))) >>= (λ more. Ok (before ++ more))) ≡
-    ((r >>= (λ more. Ok (before ++ more))) >>= (λ bytes. bytes_after bytes words))) [
-      | Err cause ↦ refl
-      | Ok front ↦ elim (bytes_at words) as
-          (λ r. ((r >>= (λ rest. Ok (front ++ rest))) >>= (λ more. Ok (before ++ more))) ≡ (r >>= (λ more. Ok ((before ++ front) ++ more))))
-          [ Err cause ↦ refl | Ok rest ↦ ap Ok (sym (append_assoc before front rest)) ]
-    ]
+bytes_after_word before word words = grind (arith, append_assoc)
 
 -- ---- a pair of digits
 
 joined : (before : List ℕ) (b : ℕ) (rest : Option (List ℕ))
     → (ok_or (option_map (λ more. b ∷ more) rest) Hex >>= (λ more. Ok (before ++ more))) ≡ (ok_or rest Hex >>= (λ more. Ok ((before ++ b ∷ []) ++ more)))
-joined before b None = refl
-joined before b (Some more) = ap Ok (sym (append_assoc before (b ∷ []) more))
+joined before b rest = grind (arith, append_assoc)
 
 pair_in : (a b byte : ℕ) (before word : List ℕ) (high low : Option ℕ) → hex_digit_of a ≡ high → hex_digit_of b ≡ low
     → option_and_then (λ h. option_map (λ l. 16 * h + l) low) high ≡ Some byte → hex_after before (a ∷ b ∷ word) ≡ hex_after (before ++ byte ∷ []) word
@@ -49,8 +40,7 @@ pair_in a b byte before word (Some h) (Some l) x y is = let same : 16 * h + l �
 -- The first part after a pair, which may be empty.
 part_after : (before part : List ℕ) (parts : List (List ℕ))
     → (hex_after before part >>= (λ bytes. bytes_after bytes (full parts))) ≡ bytes_after before (full (part ∷ parts))
-part_after before [] parts = ap (λ bytes. bytes_after bytes (full parts)) (append-nil before)
-part_after before (a ∷ part) parts = rw (some_word a part) (sym (bytes_after_word before (a ∷ part) (full parts)))
+part_after before part parts = grind (arith, append-nil, some_word, bytes_after_word)
 
 pair_parts : (a b byte : ℕ) (before part : List ℕ) (parts : List (List ℕ)) → hex_pair_of a b ≡ Some byte
     → bytes_after before (full ((a ∷ b ∷ part) ∷ parts)) ≡ bytes_after (before ++ byte ∷ []) (full (part ∷ parts))
@@ -67,10 +57,7 @@ parts_after a b byte before (part ∷ parts) is = pair_parts a b byte before par
 
 -- A blank is no digit.
 blank_is_no_digit : (b : ℕ) → is_blank b ≡ true → hex_digit_of b ≡ None
-blank_is_no_digit b blank = elim (or_cases (eqb b 32) (eqb b 9) blank) [
-  | inl is ↦ ap hex_digit_of (eqb-true b 32 is)
-  | inr is ↦ ap hex_digit_of (eqb-true b 9 is)
-]
+blank_is_no_digit b blank = grind (arith, or_cases, eqb-true)
 
 digit_is_no_blank : (b digit : ℕ) → hex_digit_of b ≡ Some digit → is_blank b ≡ false
 digit_is_no_blank b digit is = false_from_ne_true (is_blank b) (λ blank. absurd (let bad : None ≡ Some digit = sym (blank_is_no_digit b blank) ∙ is in cc))

@@ -11,9 +11,7 @@ printed_text_append xs ys = flat_map-append text_of xs ys
 -- the text of one group more
 pub text_after : (old mid new : List ℕ) (groups : List (List (List ℕ))) (lines : List (List ℕ)) → mid ≡ old ++ printed_text groups → new ≡ mid ++ text_of lines
     → new ≡ old ++ printed_text (groups ++ lines ∷ [])
-text_after old mid new groups lines before more =
-    more ∙ ap (λ o. o ++ text_of lines) before ∙ append_assoc old (printed_text groups) (text_of lines)
-    ∙ ap (λ t. old ++ (printed_text groups ++ t)) (sym (append-nil (text_of lines))) ∙ ap (λ t. old ++ t) (sym (printed_text_append groups (lines ∷ [])))
+text_after old mid new groups lines before more = grind (arith, append_assoc, append-nil, printed_text_append)
 
 -- one more line runs
 acts_more : {S L : Type 0} (acts : S → L → List (List ℕ) → S → Type 0) (lines : List L) (line : L) (found between left : S) (groups : List (List (List ℕ)))
@@ -22,8 +20,7 @@ acts_more : {S L : Type 0} (acts : S → L → List (List ℕ) → S → Type 0)
 acts_more acts [] line found between left [] group done act = (left, subst (λ s. acts s line group left) done act, refl)
 acts_more acts [] line found between left (g ∷ groups) group done act = absurd done
 acts_more acts (l ∷ lines) line found between left [] group done act = absurd done
-acts_more acts (l ∷ lines) line found between left (g ∷ groups) group done act =
-    (done.0, done.1, acts_more acts lines line done.0 between left groups group done.2 act)
+acts_more acts (l ∷ lines) line found between left (g ∷ groups) group done act = grind (arith, acts_more acts lines line done.0 between left groups group done.2 act)
 
 -- no line has run yet
 pub prints_none : {S L : Type 0} (acts : S → L → List (List ℕ) → S → Type 0) (found : S) (old : List ℕ) → PrintsLines {L = L} acts found [] found old old
@@ -32,11 +29,7 @@ prints_none acts found old = record { groups = []; acted = refl; text = sym (app
 -- one line more
 pub prints_more : {S L : Type 0} (acts : S → L → List (List ℕ) → S → Type 0) (lines : List L) (line : L) (found between left : S) (old mid new : List ℕ)
     → PrintsLines acts found lines between old mid → PrintsLine (acts between line) left mid new → PrintsLines acts found (lines ++ line ∷ []) left old new
-prints_more acts lines line found between left old mid new before one = record {
-  groups = before.groups ++ one.group ∷ [];
-  acted = acts_more acts lines line found between left before.groups one.group before.acted one.acted;
-  text = text_after old mid new before.groups one.group before.text one.text;
-}
+prints_more acts lines line found between left old mid new before one = grind (arith, acts_more, text_after)
 
 -- Of the lines `all` those before `left` ran.
 pub record RanSoFar {S L : Type 0} (acts : S → L → List (List ℕ) → S → Type 0) (found : S) (all left : List L) (now : S) (old new : List ℕ) : Type 0 where

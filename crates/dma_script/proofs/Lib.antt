@@ -7,7 +7,6 @@ pub mod FaultLemmas
 pub mod HexLemmas
 pub mod InterpretedLemmas
 pub mod LineLemmas
-pub mod NumberLemmas
 pub mod PairLemmas
 pub mod PlainLines
 pub mod QueueLemmas

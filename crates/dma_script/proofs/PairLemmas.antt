@@ -1,6 +1,6 @@
 -- Pairs of digits, one after another.
-use Rattle.std.proofs.Common.{◌≡◌, ℕ, ◌≤◌, ◌+◌, ◌*◌, inl, inr, ◌||◌, Option, Some, None, List, [], ◌∷◌, ◌++◌, length, drop, get_or, refl, ap, ◌∙◌, sym, arith}
-use Rattle.std.proofs.Common.{append_assoc, true, false, eqb, eq-eqb, Result, Ok, Err}
+use Rattle.std.proofs.Common.{◌≡◌, ℕ, ◌≤◌, ◌+◌, ◌*◌, Option, Some, None, List, [], ◌∷◌, ◌++◌, length, drop, get_or, refl, ap, ◌∙◌, arith}
+use Rattle.std.proofs.Common.{append_assoc, true, false, eqb, eq-eqb, Result, Ok}
 use Rattle.std.proofs.lemmas.Bool.{eqb-true, ne_eqb, false_from_ne_true, or_cases}
 use Rattle.std.specs.Option.{option_and_then, option_map}
 use Rattle.dma_script.specs.Pairs.{is_gap, pair_of, pairs_from}
@@ -22,31 +22,23 @@ pairs_after_gap before line (a ∷ b ∷ rest) one gap none = let is : eqb a 10 
 
 joined : (before : List ℕ) (b : ℕ) (rest : Result (List ℕ) Fault)
     → (rest >>= (λ more. Ok ((before ++ b ∷ []) ++ more))) ≡ ((rest >>= (λ more. Ok (b ∷ more))) >>= (λ more. Ok (before ++ more)))
-joined before b (Err line) = refl
-joined before b (Ok more) = ap Ok (append_assoc before (b ∷ []) more)
+joined before b rest = grind (arith, append_assoc)
 
 no_digit_at : (b gap : ℕ) → hex_digit_of gap ≡ None → eqb b gap ≡ true → hex_digit_of b ≡ None
 no_digit_at b gap none is = ap hex_digit_of (eqb-true b gap is) ∙ none
 
 -- A gap is no digit.
 no_digit : (b : ℕ) → is_gap b ≡ true → hex_digit_of b ≡ None
-no_digit b gap = elim (or_cases (eqb b 32 || eqb b 9) (eqb b 13 || eqb b 10) gap) [
-  | inl blank ↦ elim (or_cases (eqb b 32) (eqb b 9) blank) [ inl is ↦ no_digit_at b 32 refl is | inr is ↦ no_digit_at b 9 refl is ]
-  | inr end ↦ elim (or_cases (eqb b 13) (eqb b 10) end) [ inl is ↦ no_digit_at b 13 refl is | inr is ↦ no_digit_at b 10 refl is ]
-]
+no_digit b gap = grind (arith, or_cases, no_digit_at)
 
 -- A pair of digits does not begin with a gap.
 no_gap : (a b byte : ℕ) → hex_pair_of a b ≡ Some byte → is_gap a ≡ false
-no_gap a b byte is = false_from_ne_true (is_gap a)
-    (λ gap. absurd (let bad : None ≡ Some byte = sym (ap (λ high. option_and_then (λ h. option_map (λ l. 16 * h + l) (hex_digit_of b)) high) (no_digit a gap))
-    ∙ is in cc))
+no_gap a b byte is = grind (arith, false_from_ne_true, no_digit)
 
 -- What two digits spell.
 pair_spelled : (line : ℕ) (high low : Option ℕ) (byte : ℕ) → option_and_then (λ h. option_map (λ l. 16 * h + l) low) high ≡ Some byte
     → pair_of line high low ≡ Ok byte
-pair_spelled line None low byte is = absurd cc
-pair_spelled line (Some h) None byte is = absurd cc
-pair_spelled line (Some h) (Some l) byte is = let same : 16 * h + l ≡ byte = cc in ap Ok same
+pair_spelled line high low byte h = grind (arith)
 
 -- One more pair.
 pub pairs_after_pair : (before : List ℕ) (line byte : ℕ) (rest : List ℕ) → 2 ≤ length rest → hex_pair_of (get_or rest 0 0) (get_or rest 1 0) ≡ Some byte

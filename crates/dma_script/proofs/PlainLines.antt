@@ -1,9 +1,8 @@
 -- Where each byte of a text is plain or a line feed, each of its lines is plain.
-use Rattle.std.proofs.Common.{◌≡◌, ℕ, ◌≤◌, ◌+◌, ◌-◌, Bool, true, false, ◌||◌, eqb, if◌then◌else◌, List, [], ◌∷◌, length, take, get_or, zero, suc, refl, sym, ◌∙◌, subst, arith, length-drop, inl, inr}
-use Rattle.std.specs.Prelude.{slice_index}
+use Rattle.std.proofs.Common.{◌≡◌, ℕ, ◌≤◌, ◌+◌, Bool, true, false, ◌||◌, eqb, List, [], ◌∷◌, length, take, get_or, zero, suc, subst, arith, length-drop, inl, inr}
 use Rattle.std.specs.List.{All, AllPass, list_all, position_or_len, before_first, after_first}
 use Rattle.std.specs.Str.Lines.{lines, strip_carriage_return}
-use Rattle.std.proofs.lemmas.Bool.{cases_lt, false≢true}
+use Rattle.std.proofs.lemmas.Bool.{cases_lt}
 use Rattle.std.proofs.lemmas.List.{get_or-drop, get_or-take, length-take-le, nil_from_length}
 use Rattle.std.proofs.lemmas.List.Sums.{AllPass-from_list_all, fails_before_first, list_all-from_AllPass}
 use Rattle.dma_script.specs.Words.{is_plain}
@@ -19,16 +18,14 @@ IsPlainLine line = list_all is_plain line ≡ true
 
 -- one of two holds, and not the second
 first_of_two : (p q : Bool) → (p || q) ≡ true → q ≡ false → p ≡ true
-first_of_two true q e none = refl
-first_of_two false q e none = absurd (false≢true (sym none ∙ e))
+first_of_two p q h h2 = grind (arith)
 
 -- what holds of each of a list's items, and of one more in front
 all_none : {X : Type 0} (P : X → Type 0) → All P []
 all_none P k d h = absurd (omega arith)
 
 all_more : {X : Type 0} (P : X → Type 0) (x : X) (xs : List X) → P x → All P xs → All P (x ∷ xs)
-all_more P x xs here rest zero d h = here
-all_more P x xs here rest (suc k) d h = rest k d (omega arith)
+all_more P x xs h h2 = grind (arith)
 
 -- the front of plain bytes
 plain_front : (line : List ℕ) (n : ℕ) → n ≤ length line → AllPass is_plain line → AllPass is_plain (take n line)
@@ -36,11 +33,7 @@ plain_front line n within plain = λ k d h. let size = length-take-le n line wit
 
 -- and without a carriage return
 plain_stripped : (line : List ℕ) → AllPass is_plain line → IsPlainLine (strip_carriage_return line)
-plain_stripped line plain =
-    elim (eqb (slice_index line (length line - 1)) 13) as (λ b. list_all is_plain (if b then take (length line - 1) line else line) ≡ true) [
-      | true ↦ list_all-from_AllPass is_plain (take (length line - 1) line) (plain_front line (length line - 1) (omega arith) plain)
-      | false ↦ list_all-from_AllPass is_plain line plain
-    ]
+plain_stripped line plain = grind (arith, list_all-from_AllPass, plain_front)
 
 lines_plain_within : (n : ℕ) (bytes : List ℕ) → length bytes ≤ n → AllPass is_plain_or_feed bytes → All IsPlainLine (lines bytes)
 lines_plain_within zero bytes short plain = let none : bytes ≡ [] = nil_from_length bytes (omega arith) in rw none (all_none IsPlainLine)

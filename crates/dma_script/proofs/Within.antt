@@ -1,5 +1,5 @@
 -- What holds of each script that is read.
-use Rattle.std.proofs.Common.{◌≡◌, ℕ, ◌+◌, ◌≤◌, Bool, true, false, ◌&&◌, nat_le, nat_lt, if◌then◌else◌, List, [], ◌∷◌, length, length-append, map, refl, subst}
+use Rattle.std.proofs.Common.{◌≡◌, ℕ, ◌+◌, ◌≤◌, Bool, true, false, not, ◌&&◌, nat_le, nat_lt, if◌then◌else◌, List, [], ◌∷◌, length, length-append, map, refl}
 use Rattle.std.proofs.Common.{arith, Option, Some, None, IfSome, Result, Ok, Err, IfOk, codes, unwrap_or}
 use Rattle.std.specs.{List.All, List.list_all, Option.ok_or, Str.bytes_eq, Str.Lines.lines}
 use Rattle.std.proofs.{lemmas.Bool.and_parts, lemmas.Bool.leb-true, lemmas.Bool.ltb-true, lemmas.List.Elements.All-push, lemmas.List.Elements.All-nil}
@@ -11,9 +11,9 @@ use Rattle.dma_script.specs.Arguments.{number, number_or_zero, number_within, Op
 use Rattle.dma_script.specs.Arguments.{words_cause}
 use Rattle.dma_script.specs.Statements.{IsWithin, keyword_of, memory, first_line, later_line, next_line, run_step, run_script_of, statement}
 use Rattle.dma_script.specs.Race.{IsEarly, IsJob, IsRace, RaceRead, behind_memory, is_early, job, job_line, line_after_go, line_beside_go, most_jobs, no_words}
-use Rattle.dma_script.specs.Race.{nothing_read, race_keyword_of, race_step, race_script_of, where_holds}
+use Rattle.dma_script.specs.Race.{nothing_read, race_step, race_script_of, where_holds}
 use Rattle.dma_script.specs.{Words.is_plain, Words.list_of, Words.words_of, declared.fault.Cause.Cause, declared.fault.Cause.TheVariants.Command}
-use Rattle.dma_script.specs.{declared.fault.Cause.TheVariants.Range, declared.fault.Cause.TheVariants.Words, declared.fault.ReadError.ReadError}
+use Rattle.dma_script.specs.{declared.fault.Cause.TheVariants.Byte, declared.fault.Cause.TheVariants.Range, declared.fault.Cause.TheVariants.Words, declared.fault.ReadError.ReadError}
 use Rattle.dma_script.specs.{declared.transfer_line.Origin.Origin, declared.statements.Keyword.Keyword, declared.statements.RunScript.RunScript}
 use Rattle.dma_script.specs.{declared.statements.Statement.Statement, declared.race.RaceKeyword.RaceKeyword, declared.race.RaceKeyword.TheVariants.Line}
 use Rattle.dma_script.specs.{declared.race.RaceKeyword.TheVariants.Job, declared.race.RaceKeyword.TheVariants.Go}
@@ -25,28 +25,23 @@ use Rattle.dma_script.specs.declared.statements.Statement.TheVariants as stateme
 
 -- ---- what holds of each value of a result
 
-then_holds : {A B E : Type 0} (Q : A → Type 0) (P : B → Type 0) (r : Result A E) (f : A → Result B E) → IfOk r Q → ((a : A) → Q a → IfOk (f a) P)
+pub then_holds : {A B E : Type 0} (Q : A → Type 0) (P : B → Type 0) (r : Result A E) (f : A → Result B E) → IfOk r Q → ((a : A) → Q a → IfOk (f a) P)
     → IfOk (r >>= f) P
-then_holds Q P (Ok a) f q h = h a q
-then_holds Q P (Err e) f q h = tt
+then_holds Q P r f h h2 = grind (arith)
 
-bind_holds : {A B E : Type 0} (P : B → Type 0) (r : Result A E) (f : A → Result B E) → ((a : A) → IfOk (f a) P) → IfOk (r >>= f) P
-bind_holds P (Ok a) f h = h a
-bind_holds P (Err e) f h = tt
+pub bind_holds : {A B E : Type 0} (P : B → Type 0) (r : Result A E) (f : A → Result B E) → ((a : A) → IfOk (f a) P) → IfOk (r >>= f) P
+bind_holds P r f h = grind (arith)
 
 some_holds : {A E : Type 0} (P : A → Type 0) (o : Option A) (e : E) → IfSome o P → IfOk (ok_or o e) P
-some_holds P None e h = tt
-some_holds P (Some a) e h = h
+some_holds P o e h = grind (arith)
 
 where_true : (b : Bool) (cause : Cause) → IfOk (where_holds b cause) (λ _. b ≡ true)
-where_true true cause = refl
-where_true false cause = tt
+where_true b cause = grind (arith)
 
 -- The same of a value that a function returned.
 pub given_holds : {A E : Type 0} (P : A → Type 0) (result : Result A (ReadError E)) (gives : Result A E) → Gives (λ a. a) result gives → IfOk gives P
     → IfOk result P
-given_holds P (Ok a) gives is h = subst (λ g. IfOk g P) is h
-given_holds P (Err e) gives is h = tt
+given_holds P result gives h h2 = grind (arith)
 
 -- ---- what a shape makes
 
@@ -69,18 +64,14 @@ abbrev IsMade : {A : Type 0} → (A → Type 0) → Option (Spelled A) → Type 
 IsMade P found = IfSome found (λ found. P found.made)
 
 behind_holds : {A : Type 0} (P : A → Type 0) (operands : List Operand) (found : Option (Spelled A)) → IsMade P found → IsMade P (behind operands found)
-behind_holds P operands None h = tt
-behind_holds P operands (Some found) h = h
+behind_holds P operands found h = grind (arith)
 
 if_holds : {A : Type 0} (P : A → Type 0) (test : Bool) (x y : Option (Spelled A)) → IsMade P x → IsMade P y → IsMade P (if test then x else y)
-if_holds P true x y h k = h
-if_holds P false x y h k = k
+if_holds P test x y h h2 = grind (arith)
 
 fits_within : (low high n : ℕ) (a b : Bool) → low ≤ high → nat_le low n ≡ a → nat_le n high ≡ b → let found = if a && b then n else low in (low ≤ found)
     × (found ≤ high)
-fits_within low high n true true some x y = (leb-true low n x, leb-true n high y)
-fits_within low high n true false some x y = (omega arith, some)
-fits_within low high n false b some x y = (omega arith, some)
+fits_within low high n a b h h2 h3 = grind (arith, leb-true)
 
 number_lies : (low high : ℕ) (word : List ℕ) → low ≤ high → (low ≤ number_within low high word) × (number_within low high word ≤ high)
 number_lies low high word some =
@@ -114,28 +105,24 @@ spelled_holds P _ words h = tt
 
 made_holds : {A : Type 0} (P : A → Type 0) (found : Option (Spelled A)) → IsMade P found
     → IfOk (elim found [ None ↦ Err Words | Some found ↦ unless (words_cause (Some found.operands)) >>= (λ none. Ok found.made) ]) P
-made_holds P None h = tt
-made_holds P (Some found) h = bind_holds P (unless (words_cause (Some found.operands))) _ (λ none. h)
+made_holds P found h = grind (arith, bind_holds)
 
 meaning_holds : {A : Type 0} (P : A → Type 0) (shape : Shape A) (words : List (List ℕ)) → Makes P shape → IfOk (meaning shape words) P
 meaning_holds P shape words h = made_holds P (spelled shape words) (spelled_holds P shape words h)
 
 shape_holds : {A : Type 0} (P : A → Type 0) (shape : Result (Shape A) Cause) (words : List (List ℕ)) → IfOk shape (Makes P)
     → IfOk (shape >>= (λ shape. meaning shape words)) P
-shape_holds P (Ok shape) words h = meaning_holds P shape words h
-shape_holds P (Err cause) words h = tt
+shape_holds P shape words h = grind (arith, meaning_holds)
 
 -- ---- the lines of a script
 
-line_holds : {S : Type 0} (P : S → Type 0) (skipped plain : Bool) (read : S) (stepped : Result S Cause) (cause : Cause) → P read → IfOk stepped P
-    → IfOk (if skipped then Ok read else (if plain then stepped else Err cause)) P
-line_holds P true plain read stepped cause h s = h
-line_holds P false true read stepped cause h s = s
-line_holds P false false read stepped cause h s = tt
+-- A line that is skipped or not, by what then holds.
+pub lined : {S : Type 0} (P : Bool → S → Type 0) (skipped plain : Bool) (read : S) (stepped : Result S Cause) → P false read → IfOk stepped (P true)
+    → IfOk (if skipped then Ok read else (if plain then stepped else Err Byte)) (P (not skipped))
+lined P skipped plain read stepped h h2 = grind (arith)
 
 at_holds : {S : Type 0} (P : S → Type 0) (n : ℕ) (r : Result S Cause) → IfOk r P → IfOk (at_line n r) P
-at_holds P n (Ok a) h = h
-at_holds P n (Err cause) h = tt
+at_holds P n r h = grind (arith)
 
 -- What each step keeps holds of what the lines of a script give.
 lines_hold : {S : Type 0} (step : S → List (List ℕ) → Result S Cause) (P : S → Type 0)
@@ -145,7 +132,7 @@ lines_hold step P more n read [] h = h
 lines_hold step P more n read (line ∷ rest) h =
     then_holds P P (at_line (n + 1) (after_line step read line)) (λ next. after_lines step (n + 1) next rest)
     (at_holds P (n + 1) (after_line step read line)
-    (line_holds P (is_skipped (words_of line)) (list_all is_plain line) read (step read (words_of line)) _ h (more read (words_of line) h)))
+    (lined (λ _. P) (is_skipped (words_of line)) (list_all is_plain line) read (step read (words_of line)) h (more read (words_of line) h)))
     (λ next is. lines_hold step P more (n + 1) next rest is)
 
 -- ---- run scripts
@@ -175,20 +162,7 @@ IsNoSubmit (statements.Call (calls.Submit ch transfer)) = ⊥
 IsNoSubmit _ = Unit {0}
 
 makes_no_submit : (keyword : Keyword) → IfOk (statement keyword) (Makes IsNoSubmit)
-makes_no_submit keywords.Memory = tt
-makes_no_submit keywords.Write = λ addr bytes. tt
-makes_no_submit keywords.Read = λ s. tt
-makes_no_submit keywords.Copy = λ src dst. tt
-makes_no_submit keywords.Fill = λ src dst. tt
-makes_no_submit keywords.Submit = (omega arith, λ ch low high src dst wait signal. tt)
-makes_no_submit keywords.Step = (omega arith, λ ch low high count. tt)
-makes_no_submit keywords.Status = (omega arith, λ ch low high cookie. tt)
-makes_no_submit keywords.Result = (omega arith, λ ch low high cookie. tt)
-makes_no_submit keywords.Mark = λ kind s. tt
-makes_no_submit keywords.Unmark = tt
-makes_no_submit keywords.Checkpoint = tt
-makes_no_submit keywords.Totals = tt
-makes_no_submit _ = (omega arith, λ ch low high. tt)
+makes_no_submit keyword = grind (arith)
 
 run_holds : (read : Option RunScript) (words : List (List ℕ)) → ReadBefore IsNoSubmit read → IfOk (run_step read words) (ReadBefore IsNoSubmit)
 run_holds read [] h = tt
@@ -206,15 +180,7 @@ run_script_within input =
 
 -- A line whose keyword is allowed before `go` is a statement that is allowed there.
 makes_early : (keyword : Keyword) → is_early keyword ≡ true → IfOk (statement keyword) (Makes IsEarly)
-makes_early keywords.Memory early = tt
-makes_early keywords.Write early = λ addr bytes. tt
-makes_early keywords.Read early = λ s. tt
-makes_early keywords.Submit early = (omega arith, λ ch low high src dst wait signal. tt)
-makes_early keywords.Issue early = (omega arith, λ ch low high. tt)
-makes_early keywords.Terminate early = (omega arith, λ ch low high. tt)
-makes_early keywords.Status early = (omega arith, λ ch low high cookie. tt)
-makes_early keywords.Result early = (omega arith, λ ch low high cookie. tt)
-makes_early _ early = absurd cc
+makes_early keyword h = grind (arith)
 
 -- what holds of a race script that was read so far
 abbrev IsRead : RaceRead → Type 0
@@ -252,8 +218,7 @@ beside_holds None read Go words h = bind_holds IsRead (behind_memory read.before
 beside_holds (Some after) read keyword words h = bind_holds IsRead (line_after_go keyword words) _ (λ statement. h)
 
 race_holds : (read : RaceRead) (words : List (List ℕ)) → IsRead read → IfOk (race_step read words) IsRead
-race_holds read [] h = tt
-race_holds read (word ∷ words) h = bind_holds IsRead (ok_or (race_keyword_of word) _) _ (λ keyword. beside_holds read.after read keyword words h)
+race_holds read words h = grind (arith, bind_holds, beside_holds)
 
 -- A race script is as `IsRace` says.
 pub race_script_within : (input : List ℕ) → IfOk (race_script_of input) IsRace

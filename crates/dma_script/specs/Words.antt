@@ -1,6 +1,6 @@
 -- The words of a line, and what a word spells: a number, a segment, a list of segments, bytes (profile).
 use Rattle.std.specs.Prelude.{ℕ, ◌^◌, ◌+◌, ◌*◌, Bool, ◌==◌, ◌||◌, ◌&&◌, not, nat_eq, nat_lt, nat_le, if◌then◌else◌, List, [], ◌∷◌, length, map, filter, drop}
-use Rattle.std.specs.Prelude.{take, position, Option, Some, None, codes}
+use Rattle.std.specs.Prelude.{Option, Some, None, codes}
 use Rattle.std.specs.{List.slice_split, List.list_all, List.starts_with, Str.Parse.digits_value, Char.digit_value, Option.option_map, Option.option_and_then}
 use Rattle.dma_text.specs.Lines.{is_blank}
 use Rattle.dma_mem.specs.declared.segment.Segment.{Segment}
@@ -28,12 +28,25 @@ number_in base digits =
 abbrev pub number_of : List ℕ → Option ℕ
 number_of word = if starts_with nat_eq word (codes "0x") then number_in 16 (drop 2 word) else number_in 10 word
 
+-- the bytes before the first `stop`, or all if there is none
+abbrev pub front : ℕ → List ℕ → List ℕ
+front stop [] = []
+front stop (b ∷ bytes) = if b == stop then [] else b ∷ front stop bytes
+
+-- what follows the first `stop`, if there is one
+abbrev pub behind : ℕ → List ℕ → Option (List ℕ)
+behind stop [] = None
+behind stop (b ∷ bytes) = if b == stop then Some bytes else behind stop bytes
+
+-- the number before the first `stop`, and what follows it
+abbrev pub number_before : ℕ → List ℕ → Option (ℕ × Option (List ℕ))
+number_before stop word = option_map (λ n. (n, behind stop word)) (number_of (front stop word))
+
 -- the segment that a word `ADDR+LEN` spells: a number before the first plus, and a number after it
 abbrev pub segment_of : List ℕ → Option Segment
 segment_of word =
-    option_and_then (λ plus.
-    option_and_then (λ addr. option_map (λ len. record { addr = addr; len = len }) (number_of (drop (plus + 1) word)))
-    (number_of (take plus word))) (position (λ b. b == 43) word)
+    option_and_then (λ read. option_and_then (λ rest. option_map (λ len. record { addr = read.0; len = len }) (number_of rest)) read.1)
+    (number_before 43 word)
 
 -- the values of all items, if each item has one
 abbrev pub each_of : {A : Type 0} → List (Option A) → Option (List A)

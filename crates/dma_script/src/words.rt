@@ -3,9 +3,9 @@ ghost use Rattle.std.specs.Prelude.{◌≡◌, ◌==◌, ◌||◌, ◌∷◌, []
 ghost use Rattle.std.specs.List.{list_all};
 ghost use Rattle.std.specs.Str.Lines.{lines, strip_carriage_return};
 ghost use Rattle.dma_text.specs.Lines.{is_blank};
-ghost use Rattle.dma_script.specs.Words.{is_plain, segment_of, words_of, number_of};
+ghost use Rattle.dma_script.specs.Words.{is_plain, number_before, number_of, segment_of, words_of};
 ghost use Rattle.dma_script.specs.inner.Reading.{NoBlank};
-ghost use Rattle.dma_script.specs.inner.Digits.{digits_before, number_before, segment_before};
+ghost use Rattle.dma_script.specs.inner.Digits.{digits_before, segment_before};
 ghost use Rattle.std.specs.Option.{option_map};
 ghost use Rattle.std.specs.Char.{digit_value};
 
@@ -165,7 +165,7 @@ fn digits_before(stop: u8, digits: &[u8], radix: u32) -> Option<(u32, Option<&[u
     requires low { 2 ≤ radix }
     requires high { radix ≤ 16 }
     ensures { option_map (λ r. (r.0, option_map (λ rest. rest.now) r.1)) result
-        ≡ digits_before radix stop digits.now }
+        ≡ digits_before radix stop false 0 digits.now }
 {
     let mut value = 0u32;
     for (place, b) in digits.iter().enumerate() {

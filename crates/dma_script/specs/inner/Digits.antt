@@ -1,9 +1,10 @@
 -- Bytes that were read before, and then those of the rest of a text.
-use Rattle.std.specs.Prelude.{ℕ, ◌==◌, nat_eq, if◌then◌else◌, List, [], ◌∷◌, ◌++◌, drop, Option, Some, None, Result, Ok, codes}
-use Rattle.std.specs.{List.starts_with, Option.option_map}
+use Rattle.std.specs.Prelude.{ℕ, ◌^◌, Bool, ◌==◌, ◌||◌, ◌&&◌, not, nat_lt, if◌then◌else◌, List, ◌++◌, length, Option, Some, None, Result, Ok}
+use Rattle.std.specs.{List.list_all, Char.digit_value, Str.Parse.digits_value_after, Option.option_map, Option.option_and_then}
 use Rattle.dma_mem.specs.declared.segment.Segment.{Segment}
 use Rattle.dma_text.specs.Results.{◌>>=◌}
-use Rattle.dma_script.specs.{Arguments.bytes_at, Pairs.pairs_from, Words.number_in, Words.segment_of, declared.fault.Cause.Cause, declared.fault.Fault.Fault}
+use Rattle.dma_script.specs.Words.{behind, front, number_before}
+use Rattle.dma_script.specs.{Arguments.bytes_at, Pairs.pairs_from, declared.fault.Cause.Cause, declared.fault.Fault.Fault}
 
 -- the bytes before, and then those of hexadecimal words, joined; `Hex` if one of them is not
 abbrev pub bytes_after : List ℕ → List (List ℕ) → Result (List ℕ) Cause
@@ -17,25 +18,20 @@ pairs_after before line rest = do
   more ← pairs_from line rest
   Ok (before ++ more)
 
--- the bytes before the first `stop`, or all if there is none
-abbrev pub front : ℕ → List ℕ → List ℕ
-front stop [] = []
-front stop (b ∷ bytes) = if b == stop then [] else b ∷ front stop bytes
+-- the number that digits of a base spell, given whether there are some before them, and the number that those spell
+abbrev pub number_after : Bool → ℕ → ℕ → List ℕ → Option ℕ
+number_after some value base digits =
+    if (some || not (length digits == 0)) && list_all (λ c. nat_lt (digit_value c) base) digits
+    && nat_lt (digits_value_after base value digits) (2 ^ 32)
+    then Some (digits_value_after base value digits) else None
 
--- what follows the first `stop`, if there is one
-abbrev pub behind : ℕ → List ℕ → Option (List ℕ)
-behind stop [] = None
-behind stop (b ∷ bytes) = if b == stop then Some bytes else behind stop bytes
+-- the same of the digits before the first `stop`, and what follows it
+abbrev pub digits_before : ℕ → ℕ → Bool → ℕ → List ℕ → Option (ℕ × Option (List ℕ))
+digits_before base stop some value bytes = option_map (λ n. (n, behind stop bytes)) (number_after some value base (front stop bytes))
 
--- the number that the digits of a base before the first `stop` spell, and what follows it
-abbrev pub digits_before : ℕ → ℕ → List ℕ → Option (ℕ × Option (List ℕ))
-digits_before base stop bytes = option_map (λ n. (n, behind stop bytes)) (number_in base (front stop bytes))
-
--- the number before the first `stop`, in decimal or, after 0x, in hexadecimal digits, and what follows it
-abbrev pub number_before : ℕ → List ℕ → Option (ℕ × Option (List ℕ))
-number_before stop word =
-    if starts_with nat_eq word (codes "0x") then digits_before 16 stop (drop 2 word) else digits_before 10 stop word
-
--- the segment before the first comma, and what follows the comma
+-- the segment by the numbers before the first plus and the first comma after it, and what follows the comma
 abbrev pub segment_before : List ℕ → Option (Segment × Option (List ℕ))
-segment_before word = option_map (λ segment. (segment, behind 44 word)) (segment_of (front 44 word))
+segment_before word =
+    option_and_then (λ read.
+    option_and_then (λ rest. option_map (λ end. (record { addr = read.0; len = end.0 }, end.1)) (number_before 44 rest)) read.1)
+    (number_before 43 word)

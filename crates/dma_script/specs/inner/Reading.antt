@@ -143,21 +143,16 @@ read (kind next) line =
 abbrev pub transfer_from : LineRead → TransferLine × LineRead
 transfer_from line = read (transfer makes) line
 
--- The statement that a keyword and the words after it spell, and the line after them: `First` for the memory line.
-abbrev pub statement_from : Keyword → LineRead → Result (Statement × LineRead) Cause
-statement_from keyword line = do
-  shape ← statement keyword
-  Ok (read shape line)
-
 -- statements and one more, and the line after it
 abbrev pub added_to : List Statement → Statement × LineRead → Result (List Statement × LineRead) Cause
 added_to before read = Ok (before ++ read.0 ∷ [], read.1)
 
--- statements and one more, which a keyword and the words after it spell, and the line after them
+-- statements and one more, which a keyword and the words after it spell, and the line after them: `First` for the
+-- memory line
 abbrev pub statement_added : Keyword → List Statement → LineRead → Result (List Statement × LineRead) Cause
 statement_added keyword before line = do
-  read ← statement_from keyword line
-  added_to before read
+  shape ← statement keyword
+  added_to before (read shape line)
 
 -- statements and that of a line after the first, by its keyword and the words after it
 abbrev pub line_added : Keyword → List Statement → List (List ℕ) → Result (List Statement) Cause

@@ -13,14 +13,15 @@ returns-in_err-end c =
 
 pub returns-then-first-last : goal.returns-then-first-last
 returns-then-first-last c =
-    sym (no_job c.number-first.result c.number-last.result c.number-turns.result c.then-first-last.either)
+    sym (no_job (record { first = c.number-first.result; last = c.number-last.result; turns = c.number-turns.result }) c.then-first-last.either)
     ∙ job_read (words_of c.args.words.now) c.number-first.result c.number-last.result c.number-turns.result c.number-first.new.self c.number-last.new.self
     c.number-turns.new.self (Ok c.in_ok-end.field-0) (c.number-first.ensures ∙ ap number_from c.new-words.ensures) c.number-last.ensures
     c.number-turns.ensures c.in_ok-end.ensures
 
 pub returns : goal.returns
 returns c =
-    sym (a_job c.number-first.result c.number-last.result c.number-turns.result c.if-first-last.false c.if-last-gt-LAST_CHANNEL.false)
+    sym (a_job (record { first = c.number-first.result; last = c.number-last.result; turns = c.number-turns.result }) c.if-first-last.false
+    c.if-last-gt-LAST_CHANNEL.false)
     ∙ job_read (words_of c.args.words.now) c.number-first.result c.number-last.result c.number-turns.result c.number-first.new.self c.number-last.new.self
     c.number-turns.new.self (Ok c.in_ok-end.field-0) (c.number-first.ensures ∙ ap number_from c.new-words.ensures) c.number-last.ensures
     c.number-turns.ensures c.in_ok-end.ensures

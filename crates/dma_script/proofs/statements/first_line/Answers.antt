@@ -1,4 +1,5 @@
-use Rattle.std.proofs.Common.{ap, ◌∙◌, Ok, Err}
+use Rattle.std.proofs.Common.{arith}
+use Rattle.std.proofs.Common.{ap, ◌∙◌, Err}
 use Rattle.std.proofs.lemmas.Result.{err_from_is_err_and}
 use Rattle.dma_script.specs.declared.fault.Cause.TheVariants.{BadChannels, SizeOutOfRange}
 use Rattle.dma_script.specs.{Words.words_of, inner.Reading.within_from}
@@ -15,7 +16,4 @@ returns-in_err-end c =
     (c.within-channels.ensures.read ∙ ap (λ most. within_from 1 most BadChannels c.within-size.new.self) c.from.ensures) c.in_err-end.ensures)
 
 pub returns : goal.returns
-returns c = rw (c.new.ensures, c.in-Memory.is)
-    (memory_read (words_of c.args.words.now) c.within-size.result c.within-channels.result c.within-size.new.self c.within-channels.new.self
-    (Ok c.in_ok-end.field-0) (c.within-size.ensures.read ∙ ap (within_from 1 largest_size SizeOutOfRange) c.new-words.ensures)
-    (c.within-channels.ensures.read ∙ ap (λ most. within_from 1 most BadChannels c.within-size.new.self) c.from.ensures) c.in_ok-end.ensures)
+returns c = grind (arith, memory_read)

@@ -18,12 +18,7 @@ returns-in-Some c =
     word_at line c.in-Some.end c.requires.first c.in-Some.ensures.0 none c.in-Some.ensures.2
 
 pub returns-in-None : goal.returns-in-None
-returns-in-None c =
-    let line = c.args.line.now in
-    word_alone line c.requires.some
-    (no_blank_joined line c.min-near.result (length line) (λ k after below. c.loop-end.invariant k after (omega (arith, c.loop-end-test.false)))
-    c.in-None.ensures)
+returns-in-None c = grind (arith, word_alone, no_blank_joined)
 
 pub returns-then-near-line : goal.returns-then-near-line
-returns-then-near-line c =
-    word_alone c.args.line.now c.requires.some (λ k after below. c.loop-end.invariant k after (omega (arith, c.loop-end-test.false, c.if-near-line.true)))
+returns-then-near-line c = grind (arith, word_alone)

@@ -1,18 +1,19 @@
-use Rattle.std.proofs.Common.{◌∙◌, ◌∷◌, ◌++◌, [], ap}
+use Rattle.std.proofs.Common.{◌∙◌, ◌∷◌, ◌++◌, [], ap, append-nil}
 use Rattle.dma_script.specs.declared.statements.Statement.TheVariants as statements
+use Rattle.dma_script.specs.declared.queue.Line.TheVariants as lines
 use Rattle.dma_mem.specs.declared.call.Call.TheVariants as calls
-use Rattle.dma_script.proofs.QueueLemmas.{write_added, write_whole}
+use Rattle.dma_script.proofs.QueueLemmas.{added}
 use Rattle.dma_script.proofs.queue.Statements.push_write.Goals as goal
 
 pub invariant_of-self-2 : goal.invariant_of-self-2
 invariant_of-self-2 c =
     let s = c.self.inside in
     rw (c.push_reserved.ensures.items, c.reserve.ensures.items, c.in_ok-push.ensures.items)
-    (write_whole s.lines.items s.bytes.items s.long.items c.args.addr c.args.bytes c.self.invariant)
+    (simp append-nil at (added s.lines.items s.bytes.items s.long.items (lines.Write c.args.addr) (c.args.bytes ∷ []) [] c.self.invariant tt).0)
 
 pub returns : goal.returns
 returns c =
     let s = c.self.inside in
     rw (c.push_reserved.ensures.items, c.reserve.ensures.items, c.in_ok-push.ensures.items)
-    (write_added s.lines.items s.bytes.items s.long.items c.args.addr c.args.bytes c.self.invariant
+    (simp append-nil at (added s.lines.items s.bytes.items s.long.items (lines.Write c.args.addr) (c.args.bytes ∷ []) [] c.self.invariant tt).1
     ∙ ap (λ before. before ++ statements.Call (calls.Write c.args.addr c.args.bytes) ∷ []) c.self.view_is)

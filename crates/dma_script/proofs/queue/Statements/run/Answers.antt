@@ -1,20 +1,10 @@
-use Rattle.std.proofs.Common.{◌≡◌, rules, subst, sym}
-use Rattle.std.specs.{List.All, Vec.Iter.into_iter_items}
-use Rattle.dma_script.specs.inner.Queued.{statements_in}
-use Rattle.dma_script.proofs.InterpretedLemmas.{RanSoFar, ran_none, ran_more, taken_rest}
+use Rattle.std.proofs.Common.{arith}
+use Rattle.std.proofs.Common.{rules}
+use Rattle.dma_script.proofs.InterpretedLemmas.{ran_none, ran_more, taken_rest}
 use Rattle.dma_script.proofs.queue.Statements.run.Goals as goal
 
 pub loop-ran-init : goal.loop-ran-init
-loop-ran-init g c =
-    let whole : statements_in c.deref.result.now (into_iter_items c.into_iter.result) (into_iter_items c.into_iter-2.result) ≡ c.args.self =
-    rw (c.deref.ensures.value, c.into_iter.ensures.rest, c.into_iter-2.ensures.rest) c.self.view_is in
-    let acts = g.I.Interpreter.acts in
-    record {
-      ran = subst (λ left. RanSoFar acts c.args.interpreter.now c.args.self left c.args.interpreter.now c.args.out.now.items c.args.out.now.items) (sym whole)
-          (ran_none acts c.args.interpreter.now c.args.self c.args.out.now.items);
-      taken = subst (All g.I.Interpreter.takes) (sym whole) c.requires.taken;
-      ready = c.requires.ready;
-    }
+loop-ran-init g c = grind (arith, ran_none)
 
 pub loop-ran-preserved : goal.loop-ran-preserved
 loop-ran-preserved g c =
