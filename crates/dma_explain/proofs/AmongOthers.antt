@@ -1,15 +1,15 @@
 -- A program that copies, over a memory that others write between its steps.
 use Rattle.std.proofs.Common.{◌≡◌, ℕ, zero, suc, ◌+◌, ◌≤◌, ◌<◌, true, List, length, get_or, refl, sym, ap, ◌∙◌, subst, arith, length-append, inl, inr, Bool}
-use Rattle.std.proofs.Common.{None, Result, Ok, ◌≢◌, [], append-nil, Option, Some}
+use Rattle.std.proofs.Common.{None, Ok, ◌≢◌, [], append-nil, Option, Some}
 use Rattle.std.specs.{Prelude.IsSomeAnd, List.Contains}
 use Rattle.std.proofs.{lemmas.Bool.and_parts, lemmas.Bool.cases_lt, lemmas.List.Elements.Contains-append_left, lemmas.List.ext_get_or}
 use Rattle.dma_insn.specs.declared.chip.ChipInsn.{ChipInsn}
-use Rattle.dma_insn.specs.declared.chip.ChipInsn.TheVariants.{St, StoreZeros, End, Wfe}
+use Rattle.dma_insn.specs.declared.chip.ChipInsn.TheVariants.{End, Wfe}
 use Rattle.dma_mem.specs.Places.{Descriptor, all_below, size_of, lies_below, destinations, moves}
 use Rattle.dma_mem.specs.{Image.laid, Marking.MarkList}
 use Rattle.dma_chan.specs.{declared.exec.Registers.Registers, declared.turn.ChanTurn.ChanTurn, declared.turn.ChanTurn.TheVariants.Moved}
 use Rattle.dma_chan.specs.{declared.turn.ChanTurn.TheVariants.Waiting, declared.turn.ChanTurn.TheVariants.Ended, declared.turn.ChanTurn.TheVariants.Fault}
-use Rattle.dma_chan.specs.{declared.turn.FaultKind.FaultKind, Bursts.touched, Exec.State, Exec.destination_of, Exec.start_on, Exec.state, Exec.act, Exec.exec}
+use Rattle.dma_chan.specs.{Exec.State, Exec.start_on, Exec.state, Exec.act, Exec.exec}
 use Rattle.dma_chan.specs.{Channel.ChannelValue, Channel.ahead_of, Channel.step_of, Channel.stored_by, Channel.bytes_of_program, Channel.loaded, Others.Touches}
 use Rattle.dma_chan.specs.{Stepping.Machine, Stepping.answer_at, Stepping.after_step, Stepping.machine, declared.bus.Bus.TheVariants.Ideal}
 use Rattle.dma_chan.specs.{declared.run.RunEnd.RunEnd, Programs.ProgramValue, Run.opening, Run.state_after, Run.turn_after, Run.StopsAfter, Run.RunsTo}
@@ -59,9 +59,7 @@ abbrev all_stored : Trace → ℕ
 all_stored x = length x.stores + length x.zeros
 
 stored_insn : (i : ChipInsn) (x : Trace) → Can i x → all_stored (after_insn i x) ≡ all_stored x + stored_by (Ok i) x.registers
-stored_insn St x c = let b = destination_of x.registers in omega (arith, length-append x.stores (touched b), length_up b c.1)
-stored_insn StoreZeros x c = let b = destination_of x.registers in omega (arith, length-append x.zeros (touched b), length_up b c)
-stored_insn i x c = omega arith
+stored_insn i x h = grind (arith, length-append, length_up)
 
 -- a program with n instructions before its DMAEND, which a work explains
 module _ (start : Registers) (program : List ℕ) (work : Work) (n : ℕ) where
@@ -109,23 +107,7 @@ module _ (start : Registers) (program : List ℕ) (work : Work) (n : ℕ) where
   -- what others do
   pub kept : (first : List ℕ) (k : ℕ) (image other : List ℕ) (c d : ChannelValue) → Among first k image c → d ≡ c
       → ((a : ℕ) → Uses work a → get_or other a 0 ≡ get_or image a 0) → Fits work (length other) → Among first k other d
-  kept first k image other c d w same unchanged fits =
-      subst (Among first k other) (sym same) (record {
-        begins = w.begins;
-        within = w.within;
-        taken = w.taken;
-        stored = w.stored;
-        part = w.part;
-        mirrors = record {
-          registers_are = w.mirrors.registers_are;
-          buffer_is = w.mirrors.buffer_is;
-          few = w.mirrors.few;
-          same = λ a i. unchanged a (inl i) ∙ w.mirrors.same a i;
-          zeros = λ a i. unchanged a (inr (w.part a i)) ∙ w.mirrors.zeros a i;
-          rest = λ a i off. unchanged a (inr i) ∙ w.mirrors.rest a i off;
-          fits = fits;
-        };
-      })
+  kept first k image other c d w same unchanged fits = grind arith
 
   module _ (marks : MarkList) (first : List ℕ) (h : Explains start program work n) (low : Fits work (length first)) where
     -- what the answer of a step says
@@ -144,10 +126,8 @@ module _ (start : Registers) (program : List ℕ) (work : Work) (n : ℕ) where
     to k u i Moved e w less next go a =
         let c = u.channel in
         let ahead = ahead_at start program k i c w.begins w.mirrors.registers_are next in
-        let count : stored_by (ahead_of c) c.registers ≡ stored_by (Ok i) (there k).registers =
-        ap (λ (r : Result ChipInsn FaultKind). stored_by r c.registers) ahead ∙ ap (stored_by (Ok i)) w.mirrors.registers_are in
-        let more : all_stored (there (suc k)) ≡ all_stored (there k) + stored_by (Ok i) (there k).registers =
-        ap all_stored (traced_next start program work n h k i next) ∙ stored_insn i (there k) go in
+        let count : stored_by (ahead_of c) c.registers ≡ stored_by (Ok i) (there k).registers = grind (arith) in
+        let more : all_stored (there (suc k)) ≡ all_stored (there k) + stored_by (Ok i) (there k).registers = grind (arith, traced_next, stored_insn) in
         subst (Among first (suc k) (after_step marks u).image) (sym (turned marks u Moved e)) (record {
           begins = w.begins;
           within = omega (arith, less);
@@ -184,9 +164,7 @@ module _ (start : Registers) (program : List ℕ) (work : Work) (n : ℕ) where
 
     went : (k : ℕ) (i : ChipInsn) (x : Trace) (turn : ChanTurn) (s : State) → k < n → next_in program (there k) ≡ Ok i
         → Answers work first marks i x (turn, s) → Before turn
-    went k i x Moved s less next a = tt
-    went k i x (Waiting e) s less next a = waits_at k i e less next a
-    went k i x turn s less next a = a
+    went k i x turn s h h2 h3 = grind (arith, waits_at)
 
     before_by : (k : ℕ) (u : Machine) (turn : ChanTurn) → answer_at marks u ≡ turn → Among first k u.image u.channel → k < n
         → Nexts start program work n k → Before turn
@@ -256,8 +234,7 @@ only_writes : (t : Descriptor) (a : ℕ) → Contains (written (only t)) a → C
 only_writes t a i = subst (λ (xs : List ℕ). Contains xs a) (append-nil (destinations t)) i
 
 pub only_uses : (t : Descriptor) (a : ℕ) → Uses (only t) a → Touches t a
-only_uses t a (inl touches) = touches
-only_uses t a (inr i) = absurd (omega (arith, i.1))
+only_uses t a h = grind (arith)
 
 module _ (program : List ℕ) (t : Descriptor) (n : ℕ) (image : List ℕ) (h : Explains (start_on Ideal) program (only t) n)
     (waits : (e : ℕ) → ¬ IsWait (start_on Ideal) program n e) (low : Fits (only t) (length image)) where
@@ -334,9 +311,7 @@ module _ (program : List ℕ) (t : Descriptor) (n : ℕ) (image : List ℕ) (h :
 
   over : Nexts (start_on Ideal) program (only t) n n → (w : Along program t n image n (state_after [] program (opening image) n))
       → answer_at [] (at n (state_after [] program (opening image) n) w) ≡ Ended
-  over (Goes i less next go) w = absurd (omega (arith, less))
-  over (Ends e next) w = ends_then [] (at n (state_after [] program (opening image) n) w)
-      (ahead_at (start_on Ideal) program n End w.channel w.among.begins w.among.mirrors.registers_are next)
+  over h w = grind (arith, ends_then, ahead_at)
 
   last : (turn_after [] program (opening image) n).0 ≡ Ended
   last =
@@ -352,8 +327,7 @@ module _ (program : List ℕ) (t : Descriptor) (n : ℕ) (image : List ℕ) (h :
       let done = after_next (start_on Ideal) program (only t) n [] image h low n u Ended (over (nexts (start_on Ideal) program (only t) n h n (omega arith)) w)
       w.among in
       let kept = writes_no_other [] w.channel s.image s.flags in
-      let images : (step_of [] w.channel s.image s.flags).1.image ≡ (turn_after [] program (opening image) n).1.image =
-      ap (λ (y : ChanTurn × State). y.1.image) (same_step n s w) in
+      let images : (step_of [] w.channel s.image s.flags).1.image ≡ (turn_after [] program (opening image) n).1.image = grind (arith, same_step) in
       sym images
       ∙ ext_get_or 0 (step_of [] w.channel s.image s.flags).1.image (laid image t (size_of t)) (kept.size ∙ w.size ∙ sym (length_laid image t (size_of t)))
       (λ a l. elim (in_or_not (destinations t) a) [

@@ -1,7 +1,7 @@
 -- A call on a channel whose program a work explains reads only the sources of its copy.
-use Rattle.std.proofs.Common.{◌≡◌, ◌⊎◌, ℕ, zero, suc, ◌+◌, ◌<◌, true, List, ◌++◌, length, get_or, Option, Some, None, Result, Ok, refl, sym, ap, ◌∙◌, subst}
-use Rattle.std.proofs.Common.{arith, inl, inr}
-use Rattle.std.specs.{Prelude.nat_eq, Prelude.unwrap_or, List.Contains, Map.lookup}
+use Rattle.std.proofs.Common.{◌≡◌, ◌⊎◌, ℕ, zero, suc, ◌<◌, true, List, ◌++◌, length, get_or, Option, Result, Ok, refl, sym, ap, ◌∙◌, subst}
+use Rattle.std.proofs.Common.{arith, inr}
+use Rattle.std.specs.{Prelude.unwrap_or, List.Contains}
 use Rattle.std.proofs.{lemmas.Bool.cases_lt, lemmas.List.get_or_past, lemmas.List.Elements.Contains-append_left, lemmas.List.Elements.Contains-append_right}
 use Rattle.dma_insn.specs.{declared.chip.ChipInsn.ChipInsn, declared.chip.ChipInsn.TheVariants.Ld, declared.chip.ChipInsn.TheVariants.End}
 use Rattle.dma_mem.specs.{Image.put, Places.sources, Marking.MarkList}
@@ -9,7 +9,7 @@ use Rattle.dma_mem.proofs.ImagePut.{get_or_put, length_put}
 use Rattle.dma_chan.specs.Reads.{AgreeAt, read_by, read_next}
 use Rattle.dma_chan.specs.Stepping.{Machine, after_step, after_steps, goes_on_after, machine}
 use Rattle.dma_chan.specs.{declared.exec.Registers.Registers, declared.turn.FaultKind.FaultKind, Bursts.touched, Exec.source_of, Channel.ChannelValue}
-use Rattle.dma_explain.specs.Explains.{Executes, Explains, IsIn, Trace, Work, next_in, traced}
+use Rattle.dma_explain.specs.Explains.{Executes, Explains, IsIn, Work, next_in, traced}
 use Rattle.dma_explain.specs.CallReads.{AlikeAt, CallReadsIn, CallReadsNoOther, SameOrKept}
 use Rattle.dma_explain.proofs.Traced.{put_agrees}
 use Rattle.dma_explain.proofs.CallStays.{Nexts, Goes, Ends, ahead_at, inside, many_in, nexts, traced_next}
@@ -30,8 +30,7 @@ module _ (start : Registers) (program : List ℕ) (work : Work) (n : ℕ) (h : E
   load_in k a less next i =
       let x = traced start program k in
       let part = inside start program work n h (suc k) (omega (arith, less)) in
-      let is_next : (traced start program (suc k)).loads ≡ x.loads ++ touched (source_of x.registers) =
-      ap (λ (y : Trace). y.loads) (traced_next start program work n h k Ld next) in
+      let is_next : (traced start program (suc k)).loads ≡ x.loads ++ touched (source_of x.registers) = grind (arith, traced_next) in
       subst (λ (xs : List ℕ). Contains xs a) (sym part.loads)
       (Contains-append_left (traced start program (suc k)).loads part.loads_rest a
       (subst (λ (xs : List ℕ). Contains xs a) (sym is_next) (Contains-append_right x.loads (touched (source_of x.registers)) a i)))
@@ -60,28 +59,18 @@ call_reads_in start program work n marks s most taken last after a h w steps rea
 
 -- after the same bytes are put into both, an address still has the same byte in both
 agree_put : (x y : List ℕ) (ws : List (ℕ × ℕ)) (a : ℕ) → length x ≡ length y → get_or x a 0 ≡ get_or y a 0 → get_or (put x ws) a 0 ≡ get_or (put y ws) a 0
-agree_put x y ws a size same = elim (cases_lt a (length x)) [
-  | inl below ↦ put_agrees x y ws a below (omega (arith, size)) same
-  | inr above ↦ get_or_past (put x ws) a 0 (omega (arith, length_put x ws)) ∙ sym (get_or_past (put y ws) a 0 (omega (arith, length_put y ws, size)))
-]
+agree_put x y ws a size same = grind (arith, cases_lt, put_agrees, get_or_past, length_put)
 
 by_lookup : (o : Option ℕ) (x y v w : ℕ) → v ≡ unwrap_or o x → w ≡ unwrap_or o y → (v ≡ w) ⊎ ((v ≡ x) × (w ≡ y))
-by_lookup None x y v w e f = inr (e, f)
-by_lookup (Some b) x y v w e f = inl (e ∙ sym f)
+by_lookup o x y v w h h2 = grind (arith)
 
 -- each byte is put, or stays
 put_or_kept : (x y : List ℕ) (ws : List (ℕ × ℕ)) → length x ≡ length y → SameOrKept x y (put x ws) (put y ws)
-put_or_kept x y ws size a = elim (cases_lt a (length x)) [
-  | inl below ↦ by_lookup (lookup (nat_eq a) ws) (get_or x a 0) (get_or y a 0) _ _ (get_or_put x ws a below) (get_or_put y ws a (omega (arith, size)))
-  | inr above ↦ inl (get_or_past (put x ws) a 0 (omega (arith, length_put x ws)) ∙ sym (get_or_past (put y ws) a 0 (omega (arith, length_put y ws, size))))
-]
+put_or_kept x y ws size a = grind (arith, cases_lt, by_lookup, get_or_put, get_or_past, length_put)
 
 kept_on : (x y p q v w : List ℕ) → SameOrKept x y p q → ((a : ℕ) → get_or p a 0 ≡ get_or q a 0 → get_or v a 0 ≡ get_or w a 0) → SameOrKept p q v w
     → SameOrKept x y v w
-kept_on x y p q v w first on then a = elim (then a) [
-  | inl now ↦ inl now
-  | inr kept ↦ elim (first a) [ inl before ↦ inl (on a before) | inr both ↦ inr (kept.0 ∙ both.0, kept.1 ∙ both.1) ]
-]
+kept_on x y p q v w first on then a = grind arith
 
 machine_alike : (s u : Machine) → u.channel ≡ s.channel → u.flags ≡ s.flags → machine s.channel u.image s.flags ≡ u
 machine_alike s u channel flags = rw (← channel, ← flags) refl

@@ -4,7 +4,7 @@ use Rattle.std.proofs.Common.{inr}
 use Rattle.std.specs.{Prelude.IsSomeAnd, List.Contains}
 use Rattle.std.proofs.{lemmas.Bool.cases_lt, lemmas.List.Elements.Contains-append_left, lemmas.List.Elements.Contains-append_right}
 use Rattle.dma_insn.specs.declared.chip.ChipInsn.{ChipInsn}
-use Rattle.dma_insn.specs.declared.chip.ChipInsn.TheVariants.{Ld, St, End, StoreZeros}
+use Rattle.dma_insn.specs.declared.chip.ChipInsn.TheVariants.{St, End, StoreZeros}
 use Rattle.dma_mem.specs.{Places.destinations, Marking.MarkList}
 use Rattle.dma_chan.specs.Channel.{ChannelValue, ahead_of, bytes_of_program, state_of, step_of}
 use Rattle.dma_chan.specs.Stepping.{Machine, answer_at, after_step, after_steps, goes_on_after}
@@ -38,9 +38,7 @@ pub ends_then : (marks : MarkList) (u : Machine) → ahead_of u.channel ≡ Ok E
 ends_then marks u ahead = ap (λ (x : ChanTurn × State). x.0) (does_next marks End u ahead)
 
 pub registers_after : (i : ChipInsn) (x : Trace) → (after_insn i x).registers ≡ moved i x.registers
-registers_after Ld x = refl
-registers_after StoreZeros x = refl
-registers_after i x = refl
+registers_after i x = grind (arith)
 
 module _ (start : Registers) (program : List ℕ) (work : Work) (n : ℕ) (h : Explains start program work n) where
   fetched : (k : ℕ) → k < n → (r : Result ChipInsn FaultKind) → next_in program (traced start program k) ≡ r → GoesOn r (traced start program k)
@@ -95,10 +93,7 @@ module _ (start : Registers) (program : List ℕ) (work : Work) (n : ℕ) (h : E
 
   next_writes : (k : ℕ) (c : ChannelValue) (a : ℕ) (i : ChipInsn) → c.registers ≡ (traced start program k).registers → ahead_of c ≡ Ok i
       → Contains (written_next c) a → Contains (written_by (Ok i) (traced start program k).registers) a
-  next_writes k c a i at ahead w =
-      let here : written_next c ≡ written_by (Ok i) (traced start program k).registers = ap (λ (r : Result ChipInsn FaultKind). written_by r c.registers) ahead
-      ∙ ap (written_by (Ok i)) at in
-      subst (λ (xs : List ℕ). Contains xs a) here w
+  next_writes k c a i at ahead w = grind arith
 
   pub next_inside : (k : ℕ) (c : ChannelValue) (a : ℕ) → IsIn start program n k c → Nexts start program work n k → Contains (written_next c) a
       → Contains (written work) a
@@ -118,8 +113,7 @@ module _ (start : Registers) (program : List ℕ) (work : Work) (n : ℕ) (h : E
       let does = does_next marks i u (ahead_at start program k i c w.begins w.registers next) in
       let new : x.1.registers ≡ moved i c.registers = ap (λ (y : ChanTurn × State). y.1.registers) does
       ∙ act_leads marks i (state_of c u.image u.flags) (sym (ap (λ (y : ChanTurn × State). y.0) does) ∙ moves) in
-      let there : moved i c.registers ≡ (traced start program (suc k)).registers =
-      ap (moved i) w.registers ∙ sym (registers_after i (traced start program k)) ∙ sym (ap (λ (y : Trace). y.registers) (traced_next k i next)) in
+      let there : moved i c.registers ≡ (traced start program (suc k)).registers = grind (arith, registers_after, traced_next) in
       subst (IsIn start program n (suc k)) (sym (turned marks u Moved moves))
       (record { begins = w.begins; within = omega (arith, less); registers = new ∙ there })
 
@@ -151,14 +145,7 @@ module _ (start : Registers) (program : List ℕ) (work : Work) (n : ℕ) (h : E
       after_one marks v.0 u (answer_at marks u) v.1 refl
 
 pub load_executes : LoadExecutes
-load_executes start program n c l = (
-  0,
-  record {
-    begins = subst (λ (d : ChannelValue). IsSomeAnd d.program (λ p. StartsWith p program)) (sym l.2) l.1;
-    within = omega arith;
-    registers = ap (λ (d : ChannelValue). d.registers) l.2;
-  },
-)
+load_executes start program n c l = grind arith
 
 pub call_stays_in : CallStaysIn
 call_stays_in start program work n marks s most taken last after h w steps = record {

@@ -6,9 +6,9 @@ use Rattle.dma_insn.specs.{declared.chip.ChipInsn.ChipInsn, declared.chip.ChipIn
 use Rattle.dma_mem.specs.Marking.{MarkList}
 use Rattle.dma_chan.specs.declared.turn.ChanTurn.TheVariants.{Moved, Waiting, Ended, Fault}
 use Rattle.dma_chan.specs.Stepping.{Machine, answer_at, after_step, after_steps, goes_on_after, signal_of, signal_after, TakesSteps}
-use Rattle.dma_chan.specs.{declared.exec.Registers.Registers, declared.turn.ChanTurn.ChanTurn, declared.turn.FaultKind.FaultKind, Exec.ChangesNothing}
+use Rattle.dma_chan.specs.{declared.exec.Registers.Registers, declared.turn.ChanTurn.ChanTurn, declared.turn.FaultKind.FaultKind}
 use Rattle.dma_chan.specs.{Exec.State, Channel.ahead_of, Programs.ProgramValue}
-use Rattle.dma_explain.specs.Explains.{Explains, IsLoadedWith, IsSignal, IsWait, Work, after_insn, amounts_of, next_in, traced}
+use Rattle.dma_explain.specs.Explains.{Explains, IsLoadedWith, IsSignal, IsWait, Work, amounts_of, next_in, traced}
 use Rattle.dma_explain.specs.{declared.explain.Amounts.Amounts, Works.MissesAll, Works.Uses}
 use Rattle.dma_chan.proofs.SteppedOver.{is_still, was_moved, went_before}
 use Rattle.dma_chan.proofs.{StepsTaken.steps_move, StepsTaken.steps_stop, CallWrites.does_next}
@@ -35,8 +35,7 @@ not_none o some e = let bad = e in let w = some in grind arith
 
 -- only a DMASEV signals
 pub is_signal : (next : Result ChipInsn FaultKind) (e : ℕ) → signal_of next ≡ Some e → next ≡ Ok (Sev e)
-is_signal (Ok (Sev d)) e h = let same : d ≡ e = cc in ap (λ (k : ℕ). Ok (Sev k)) same
-is_signal next e h = absurd (cc)
+is_signal next e h = grind (arith)
 
 module _ (start : Registers) (program : List ℕ) (work : Work) (n : ℕ) (first : List ℕ) where
   -- a channel into which the program was just loaded, over the first memory
@@ -47,8 +46,7 @@ module _ (start : Registers) (program : List ℕ) (work : Work) (n : ℕ) (first
   -- after a call the channel is not finished, or it has ended
   pub either_way : (last : Option ChanTurn) (v : Machine) → Leads start program work n first last v → Runs start program work n first v
       ⊎ (v.channel.program ≡ None)
-  either_way (Some Ended) v d = inr d.dropped
-  either_way last v r = inl r
+  either_way last v h = grind (arith)
 
   -- what others do between two calls
   pub survived : (v w : Machine) → Runs start program work n first v → w.channel ≡ v.channel → ((a : ℕ) → Uses work a → get_or w.image a 0 ≡ get_or v.image a 0)
@@ -79,11 +77,7 @@ module _ (start : Registers) (program : List ℕ) (work : Work) (n : ℕ) (marks
       → Leads start program work n first (Some turn) (after_step marks u)
   one k u Moved w e = (suc k, moved_on k u w e)
   one k u Ended w e = after k u Ended e w
-  one k u turn w e = (
-    k,
-    subst (λ (v : Machine). Among start program work n first k v.image v.channel)
-        (sym (is_still marks u (subst ChangesNothing (sym e) tt))) w,
-  )
+  one k u turn w e = grind (arith, is_still)
 
   -- after steps of which each moved
   pub many : (j : ℕ) (s : Machine) → Runs start program work n first s → ((k : ℕ) → k < suc j → goes_on_after marks s k ≡ true)
@@ -97,8 +91,7 @@ module _ (start : Registers) (program : List ℕ) (work : Work) (n : ℕ) (marks
   -- what a call leads to
   pub call : (s v : Machine) (most taken : ℕ) (last : Option ChanTurn) → Runs start program work n first s → TakesSteps marks s most taken last v
       → Leads start program work n first last v
-  call s v most zero last r steps =
-      subst (λ (o : Option ChanTurn). Leads start program work n first o v) (sym steps.answer) (subst (Runs start program work n first) (sym steps.ends_at) r)
+  call s v most zero last r steps = grind arith
   call s v most (suc p) last r steps =
       let u = after_steps marks s p in
       let w = many p s r (steps_move steps) in
@@ -148,14 +141,12 @@ module _ (start : Registers) (program : List ℕ) (work : Work) (n : ℕ) (marks
   -- a signal comes after the bytes that are stored
   at_signal : (k : ℕ) (u : Machine) (e : ℕ) → ahead_of u.channel ≡ Ok (Sev e) → Among start program work n first k u.image u.channel
       → Nexts start program work n k → IsSignal start program n e (done_at start program (after_step marks u))
-  at_signal k u e sev w (Ends last next) =
-      let bad : End ≡ Sev e = let same = sym (ahead_at start program k End u.channel w.begins w.mirrors.registers_are next) ∙ sev in cc in absurd (cc)
+  at_signal k u e sev w (Ends last next) = grind (arith, ahead_at)
   at_signal k u e sev w (Goes i less next go) =
       let is : i ≡ Sev e = let same = sym (ahead_at start program k i u.channel w.begins w.mirrors.registers_are next) ∙ sev in cc in
       let moves : answer_at marks u ≡ Moved = ap (λ (x : ChanTurn × State). x.0) (does_next marks (Sev e) u sev) in
       let later = moved_on k u w moves in
-      let same : amounts_of (traced start program (suc k)) ≡ amounts_of (traced start program k) =
-      ap amounts_of (traced_next start program work n h k i next ∙ ap (λ (j : ChipInsn). after_insn j (traced start program k)) is) in
+      let same : amounts_of (traced start program (suc k)) ≡ amounts_of (traced start program k) = grind (arith, traced_next) in
       record {
         step = k;
         within = less;

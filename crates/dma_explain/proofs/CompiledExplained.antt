@@ -1,22 +1,19 @@
 -- From any registers and on each bus a transfer explains its program that was compiled for that bus, which has its
 -- events.
-use Rattle.std.proofs.Common.{◌≡◌, ℕ, zero, suc, ◌+◌, ◌-◌, ◌≤◌, ◌<◌, List, [], ◌++◌, append-nil, length, take, refl, sym, ap, ◌∙◌, subst, arith, Ok, ◌≢◌, Bool}
-use Rattle.std.proofs.Common.{true, false, cond, ◌&&◌, Option, Some, None, inl, inr}
-use Rattle.std.specs.{Prelude.IfSome, Prelude.nat_lt, List.AllPairs}
+use Rattle.std.proofs.Common.{◌≡◌, ℕ, zero, suc, ◌+◌, ◌-◌, ◌≤◌, ◌<◌, List, [], append-nil, length, take, refl, sym, ap, ◌∙◌, subst, arith, Ok, ◌≢◌}
+use Rattle.std.proofs.Common.{false, Option, None, inl, inr}
+use Rattle.std.specs.{Prelude.IfSome, List.AllPairs}
 use Rattle.std.proofs.{lemmas.Bool.cases_lt, lemmas.Bool.le-ltb, lemmas.List.length-take-le, lemmas.List.take_all, Math.Seq.take-add}
-use Rattle.dma_insn.specs.declared.insn.Reg.TheVariants.{Sar, Dar, Ccr}
 use Rattle.dma_insn.specs.declared.chip.ChipInsn.{ChipInsn}
-use Rattle.dma_insn.specs.declared.chip.ChipInsn.TheVariants.{Mov, Ld, St, End, LpEnd, Sev, Wfe, StoreZeros, AddHalfword, LoopAgain}
+use Rattle.dma_insn.specs.declared.chip.ChipInsn.TheVariants.{Ld, St, End, Sev, Wfe, StoreZeros}
 use Rattle.dma_mem.specs.{Places.Apart, Places.Descriptor, Places.sources, Places.destinations, Places.size_of, Rules.IsTransfer}
-use Rattle.dma_chan.specs.declared.turn.FaultKind.TheVariants.{OperandInvalid, MfifoErr, StDataUnavailable, InstrFetchErr}
 use Rattle.dma_chan.specs.Compiled.{compiled, compiled_on, cost, cost_on, members_on, tree_on}
-use Rattle.dma_chan.specs.Exec.{begun, buffer_size, start_on, counter_of, source_of, destination_of, moved}
-use Rattle.dma_chan.specs.{declared.bus.Bus.Bus, declared.bus.Bus.TheVariants.Ideal, declared.exec.Registers.Registers, Bursts.burst_len, Bursts.touched}
-use Rattle.dma_chan.specs.{Bus.accepts, Next.next_of, Tree.bytes_of, Traffic.read_len, Traffic.write_len, inner.At.moved_by}
-use Rattle.dma_explain.specs.declared.explain.Cause.TheVariants.{Fails, LoadsPast, StoresPast, StoresFixed}
+use Rattle.dma_chan.specs.Exec.{begun, start_on, moved}
+use Rattle.dma_chan.specs.{declared.bus.Bus.Bus, declared.bus.Bus.TheVariants.Ideal, declared.exec.Registers.Registers}
+use Rattle.dma_chan.specs.{Next.next_of, Tree.bytes_of, inner.At.moved_by}
 use Rattle.dma_explain.specs.OnBuses.{CompiledEvents, CompiledExplained, CompiledOnBus}
-use Rattle.dma_explain.specs.Explains.{GoesOn, IsWork, Trace, all_of, amounts_of, held, only, passes, written, stop_of, stop_of_insn, stop_of_mov, after_fetch}
-use Rattle.dma_explain.specs.Explains.{after_insn, next_in, traced, untraced}
+use Rattle.dma_explain.specs.Explains.{GoesOn, IsWork, Trace, all_of, amounts_of, held, only, written, stop_of, stop_of_insn, after_fetch}
+use Rattle.dma_explain.specs.Explains.{after_insn, next_in, traced}
 use Rattle.dma_chan.proofs.MembersByNumber.{at_on, begin_on, bus_on, carries_on, fetches_on, member_on, next_on, registers_on}
 use Rattle.dma_chan.proofs.ShapeLaws.{all_stored, end_last, end_only, signal_last, signal_only, wait_first, wait_only}
 use Rattle.dma_chan.proofs.{NextFits.next_widens, BurstsInTurn.Progress, BurstsInTurn.advanced, BurstsInTurn.CarriesOne, ControlWords.aligned_len}
@@ -44,39 +41,10 @@ module _ (bus : Bus) (src dst : List ℕ) (p : Progress) (x : Trace) (w : Traces
   same_insn i = record { registers = ap (moved i) w.registers; loads = w.loads; stores = w.stores; zeros = w.zeros; in_src = w.in_src; in_dst = w.in_dst }
 
   load : CarriesOne bus src dst Ld p → Traces src dst (advanced Ld p) (after_insn Ld x)
-  load c =
-      let k = read_len p.registers.ccr in
-      let e : p.stored ≡ p.stored + p.held = omega (arith, c.empty) in
-      record {
-        registers = ap (moved Ld) w.registers;
-        loads =
-            ap (λ (xs : List ℕ). xs ++ touched (source_of x.registers)) (w.loads ∙ ap (λ (n : ℕ). take n src) (sym e))
-            ∙ ap (λ (r : Registers). take p.stored src ++ touched (source_of r)) w.registers
-            ∙ ap (λ (xs : List ℕ). take p.stored src ++ xs) c.touches
-            ∙ sym (take-add p.stored k src)
-            ∙ ap (λ (n : ℕ). take n src) (let all : p.stored + k ≡ p.stored + (p.held + k) = omega (arith, c.empty) in all);
-        stores = w.stores;
-        zeros = w.zeros;
-        in_src = omega (arith, c.empty, c.whole);
-        in_dst = w.in_dst;
-      }
+  load c = grind (arith, take-add)
 
   store : CarriesOne bus src dst St p → Traces src dst (advanced St p) (after_insn St x)
-  store c =
-      let k = write_len p.registers.ccr in
-      let len : burst_len (destination_of p.registers) ≡ k = aligned_len p.registers.bus 14 p.registers.dar p.registers.ccr c.aligned in
-      record {
-        registers = ap (moved St) w.registers;
-        loads = w.loads ∙ ap (λ (n : ℕ). take n src) (let all : p.stored + p.held ≡ p.stored + k + (p.held - k) = omega (arith, c.held) in all);
-        stores =
-            ap (λ (xs : List ℕ). xs ++ touched (destination_of x.registers)) w.stores
-            ∙ ap (λ (r : Registers). take p.stored dst ++ touched (destination_of r)) w.registers
-            ∙ ap (λ (xs : List ℕ). take p.stored dst ++ xs) (touched_from p.registers.bus 14 p.registers.dar p.registers.ccr k c.rises len ∙ c.touches)
-            ∙ sym (take-add p.stored k dst);
-        zeros = w.zeros;
-        in_src = omega (arith, c.held, w.in_src);
-        in_dst = c.whole;
-      }
+  store c = grind (arith, aligned_len, touched_from, take-add)
 
   advances : (i : ChipInsn) → CarriesOne bus src dst i p → Traces src dst (advanced i p) (after_insn i x)
   advances Ld c = load c
@@ -90,30 +58,7 @@ module _ (bus : Bus) (src dst : List ℕ) (p : Progress) (x : Trace) (full : hel
   here = record x { registers = p.registers }
 
   passes_on : (i : ChipInsn) → i ≢ End → CarriesOne bus src dst i p → CanJump i p.registers → stop_of_insn i here ≡ None
-  passes_on Ld ne c j =
-      let b = source_of p.registers in
-      let len : burst_len b ≡ read_len p.registers.ccr = aligned_len p.registers.bus 0 p.registers.sar p.registers.ccr c.aligned in
-      passed (nat_lt buffer_size (held here + burst_len b)) (Fails MfifoErr) _
-      (le-ltb buffer_size (held here + burst_len b) (omega (arith, full, len, c.room, c.empty)))
-      (passed (passes b) LoadsPast None (ends_low b c.ends) refl)
-  passes_on St ne c j =
-      let b = destination_of p.registers in
-      let len : burst_len b ≡ write_len p.registers.ccr = aligned_len p.registers.bus 14 p.registers.dar p.registers.ccr c.aligned in
-      passed (nat_lt (held here) (burst_len b)) (Fails StDataUnavailable) _ (le-ltb (held here) (burst_len b) (omega (arith, full, len, c.held)))
-      (passed (passes b) StoresPast _ (ends_low b c.ends) (ap (λ (up : Bool). cond up None (Some StoresFixed)) c.rises))
-  passes_on (Mov Ccr v) ne c j =
-      let taken : accepts p.registers.bus v ≡ true = ap (λ (b : Bus). accepts b v) on ∙ c.0 in
-      ap (λ (b : Bool). cond b (stop_of_mov (Mov Ccr v) here) (Some (Fails OperandInvalid))) taken ∙ mov_empty (Mov Ccr v) here (full ∙ c.1)
-  passes_on (Mov Dar v) ne c j = mov_empty (Mov Dar v) here (full ∙ c)
-  passes_on (Mov Sar v) ne c j = refl
-  passes_on (LpEnd d back) ne c j =
-      let n = counter_of d p.registers in
-      passed (nat_lt 0 n && nat_lt p.registers.pc back) (Fails InstrFetchErr) None (cannot_jump n p.registers.pc back j) refl
-  passes_on End ne c j = absurd (ne refl)
-  passes_on StoreZeros ne c j = absurd c
-  passes_on (AddHalfword a half negative) ne c j = absurd c
-  passes_on (LoopAgain counter back) ne c j = absurd c
-  passes_on i ne c j = refl
+  passes_on i h h2 h3 = grind (arith, aligned_len, passed, le-ltb, ends_low, mov_empty, cannot_jump)
 
 module _ (start : Registers) (t : Descriptor) (h : IsTransfer t) where
   abbrev pub program : List ℕ
@@ -135,8 +80,7 @@ module _ (start : Registers) (t : Descriptor) (h : IsTransfer t) where
       ∙ (fetches_on start t k h l).next)
 
   pub along : (k : ℕ) → k < cost_on start.bus t → TracesAt k
-  along zero l = subst (λ (p : Progress). Traces (sources t) (destinations t) p (untraced start)) (sym (begin_on start t))
-      (record { registers = refl; loads = refl; stores = refl; zeros = refl; in_src = omega arith; in_dst = omega arith })
+  along zero l = grind (arith, begin_on)
   along (suc k) l =
       let less : k < cost_on start.bus t = omega arith in
       let w = along k less in

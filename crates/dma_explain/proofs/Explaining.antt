@@ -1,23 +1,21 @@
 -- The run that explains a program, turn after turn.
-use Rattle.std.proofs.Common.{◌≡◌, ◌≢◌, ℕ, suc, ◌+◌, ◌-◌, ◌≤◌, ◌<◌, Bool, true, false, cond, List, ◌++◌, length, length-append, Option, Some, None, Result, Ok}
-use Rattle.std.proofs.Common.{refl, sym, ap, ◌∙◌, subst, arith, inl, inr}
+use Rattle.std.proofs.Common.{◌≡◌, ◌≢◌, ℕ, suc, ◌+◌, ◌-◌, ◌≤◌, ◌<◌, List, ◌++◌, length, length-append, Some, None, Result, Ok}
+use Rattle.std.proofs.Common.{sym, ap, ◌∙◌, subst, arith, inl, inr}
 use Rattle.std.specs.{Prelude.nat_lt, List.AllPairs}
 use Rattle.std.proofs.lemmas.Bool.{cases_lt, le-ltb, ltb-false}
-use Rattle.dma_insn.specs.declared.chip.ChipInsn.TheVariants.{Mov, Ld, St, End, LpEnd, StoreZeros, AddHalfword, LoopAgain}
-use Rattle.dma_insn.specs.declared.insn.Reg.TheVariants.{Ccr, Dar}
-use Rattle.dma_insn.specs.{Chip.spelling, declared.chip.ChipInsn.ChipInsn, declared.chip.Address.TheVariants.Destination}
+use Rattle.dma_insn.specs.declared.chip.ChipInsn.TheVariants.{End}
+use Rattle.dma_insn.specs.{Chip.spelling, declared.chip.ChipInsn.ChipInsn}
 use Rattle.dma_mem.specs.Places.{Apart, copying, destinations, places, share, sources}
 use Rattle.dma_mem.proofs.SharedPlaces.{share_false, share_none}
-use Rattle.dma_chan.specs.declared.turn.FaultKind.TheVariants.{OperandInvalid, MfifoErr, StDataUnavailable, InstrFetchErr}
 use Rattle.dma_chan.specs.{declared.exec.Registers.Registers, declared.turn.FaultKind.FaultKind, Channel.last_count, Next.next_on}
-use Rattle.dma_explain.specs.declared.explain.Cause.TheVariants.{Fails, LoadsPast, StoresPast, StoresFixed, DropsBytes, BytesLeft, StoresSource, StoresTwice}
+use Rattle.dma_explain.specs.declared.explain.Cause.TheVariants.{BytesLeft, StoresSource, StoresTwice}
 use Rattle.dma_explain.specs.declared.explain.Cause.TheVariants.{TooLong}
 use Rattle.dma_explain.specs.Explains.{ExplainedOnce, Explains, Finds, FoundOnce, GoesOn, HasAddress, IsWork, RefusedUnexplained, Refuses, StopsAt, Trace, Work}
 use Rattle.dma_explain.specs.Explains.{after_fetch, after_insn, all_of, amounts_of, bursts_in, cleared, counted, events_in, happening_of, has_twice, held}
 use Rattle.dma_explain.specs.Explains.{items_in, items_of, next_in, stop_of, stop_of_insn, stop_of_lists, traced, unrolled, work_of, written, written_in}
 use Rattle.dma_explain.specs.Items.{Items, with_burst}
 use Rattle.dma_explain.specs.inner.Tracing.{Advances, AreItems, CountsOf, Follows, IsCopied, IsNew, Leads, Reaches, lists_of, total_of, trace_of}
-use Rattle.dma_explain.specs.{declared.explain.Amounts.Amounts, declared.explain.BurstCounts.BurstCounts, declared.explain.Cause.Cause}
+use Rattle.dma_explain.specs.{declared.explain.BurstCounts.BurstCounts, declared.explain.Cause.Cause}
 use Rattle.dma_explain.specs.{declared.explain.Explained.Explained, declared.explain.Happening.Happening, declared.explain.tracer.Tracer.Tracer}
 use Rattle.dma_explain.proofs.{GoingOn.none_first, GoingOn.passed, TraceParts.same_lists, LowestPlaces.none_twice, LowestPlaces.once_of}
 use Rattle.dma_chan.proofs.NextFits.{next_fits}
@@ -25,27 +23,17 @@ use Rattle.dma_chan.proofs.NextFits.{next_fits}
 -- ---- turn after turn
 
 pub follows_new : (start : Registers) (program : List ℕ) (x : Tracer) → IsNew start x → Follows start program 0 x
-follows_new start program x h =
-    let at : x.registers.pc ≡ 0 = ap (λ (y : Trace). y.registers.pc) h.trace in
-    let none : x.done ≡ record { copied = 0; cleared = 0 } = h.tracer.done ∙ ap amounts_of h.trace in
-    record {
-      tracer = h.tracer;
-      reaches = record { trace = h.trace; goes = λ k l. absurd (omega (arith, l)); events_are = h.events; items_are = h.lists; bursts_are = h.bursts };
-      pc = omega (arith, at);
-      stored = omega (arith, ap (λ (a : Amounts). a.copied) none, ap (λ (a : Amounts). a.cleared) none);
-      counts = (omega (arith, ap (λ (b : BurstCounts). b.loads) h.bursts), omega (arith, ap (λ (b : BurstCounts). b.stores) h.bursts));
-    }
+follows_new start program x h = grind arith
 
-next_here : (start : Registers) (program : List ℕ) (n : ℕ) (x : Tracer) (r : Result ChipInsn FaultKind) → Follows start program n x
+pub next_here : (start : Registers) (program : List ℕ) (n : ℕ) (x : Tracer) (r : Result ChipInsn FaultKind) → Follows start program n x
     → r ≡ next_on x.registers.bus program x.registers.pc → next_in program (traced start program n) ≡ r
 next_here start program n x r w e = ap (λ (y : Trace). next_on y.registers.bus program y.registers.pc) (sym w.reaches.trace) ∙ sym e
 
 -- one more instruction
-pub reaches_on : (start : Registers) (program : List ℕ) (n : ℕ) (z : Trace) (events : List Happening) (items : Items) (bursts : BurstCounts) (i : ChipInsn)
-    → Reaches start program n z events items bursts → next_in program z ≡ Ok i → i ≢ End → stop_of_insn i z ≡ None
-    → Reaches start program (n + 1) (after_insn i z) (events ++ happening_of (Ok i) (amounts_of z)) (with_burst (Ok i) z.registers items)
-    (counted (Ok i) bursts)
-reaches_on start program n z events items bursts i w e other stops =
+pub reaches_on : {start : Registers} {program : List ℕ} {n : ℕ} {z : Trace} {es : List Happening} {is : Items} {bs : BurstCounts} (i : ChipInsn)
+    → Reaches start program n z es is bs → next_in program z ≡ Ok i → i ≢ End → stop_of_insn i z ≡ None
+    → Reaches start program (n + 1) (after_insn i z) (es ++ happening_of (Ok i) (amounts_of z)) (with_burst (Ok i) z.registers is) (counted (Ok i) bs)
+reaches_on {start} {program} {n} {z} i w e other stops =
     let here = traced start program n in
     let next : next_in program here ≡ Ok i = ap (next_in program) (sym w.trace) ∙ e in
     let to : traced start program (suc n) ≡ after_insn i here = ap (λ r. after_fetch r here) next in
@@ -83,7 +71,7 @@ pub follows_on : (program : List ℕ) (x y : Tracer) (bursts : BurstCounts) (i :
     → ((n : ℕ) → CountsOf n x.bursts → CountsOf (n + 1) bursts) → Leads program 1 x (record y { bursts = bursts })
 follows_on program x y bursts i e other a jump more count few start n w =
     let fits = next_fits x.registers.bus program x.registers.pc i w.pc (sym e) in
-    let on = reaches_on start program n (trace_of x) x.events.items (lists_of x) x.bursts i w.reaches (sym e) other a.goes in
+    let on = reaches_on i w.reaches (sym e) other a.goes in
     record {
       tracer = record {
         few = a.tracer.few;
@@ -130,8 +118,7 @@ ends w z work loads stores zeros =
     let to = written w in
     let empty : held z ≤ 0 = omega (arith, work.same_length, ap length loads, ap length stores) in
     let writes : written_in z ≡ to = ap (λ (xs : List ℕ). xs ++ z.zeros) stores ∙ ap (λ (xs : List ℕ). destinations w.copy ++ xs) zeros in
-    let lists : stop_of_lists from to ≡ None =
-    passed (has_twice to) StoresTwice _ (none_twice to work.once) (passed (share from to) StoresSource None (share_none from to work.apart) refl) in
+    let lists : stop_of_lists from to ≡ None = grind (arith, passed, none_twice, share_none) in
     passed (nat_lt 0 (held z)) BytesLeft _ (le-ltb 0 (held z) empty)
     (ap (λ (xs : List ℕ). stop_of_lists xs (written_in z)) loads ∙ ap (stop_of_lists from) writes ∙ lists)
 
@@ -140,10 +127,7 @@ pub finds : (start : Registers) (program : List ℕ) (n count : ℕ) (x : Tracer
     → Finds start program most y
 finds start program n count x y w e few most less is c =
     let work : Work = record { copy = copying (unrolled x.src.items) x.dst.items None None; zeros = x.zeros.items } in
-    let same : work ≡ work_of y =
-    ap (λ v. record work { copy = copying (unrolled v.items) x.dst.items None None }) (sym c.src)
-    ∙ ap (λ v. record work { copy = copying (unrolled y.src.items) v.items None None }) (sym c.dst)
-    ∙ ap (λ v. record (work_of y) { zeros = v.items }) (sym c.zeros) in
+    let same : work ≡ work_of y = grind (arith) in
     let copy = copies (trace_of x) w.tracer.few c.ends in
     let lists : lists_of x ≡ items_of y = same_lists (ap (λ v. v.items) (sym c.src)) (ap (λ v. v.items) (sym c.dst)) (ap (λ v. v.items) (sym c.zeros)) in
     let items = subst AreItems lists w.tracer.items in
@@ -175,102 +159,35 @@ finds start program n count x y w e few most less is c =
 -- the counts of a run to DMAEND are those of the instructions before it
 pub counts_bursts : (start : Registers) (program : List ℕ) (n count : ℕ) (x : Tracer) (y : Explained) → Follows start program n x → count ≡ n + 1
     → IsCopied x count y → y.bursts ≡ bursts_in start program (y.steps - 1)
-counts_bursts start program n count x y w is c =
-    let before : n ≡ y.steps - 1 = omega (arith, c.steps, is) in
-    c.bursts ∙ w.reaches.bursts_are ∙ ap (bursts_in start program) before
+counts_bursts start program n count x y w is c = grind arith
 
 -- ---- refusals
 
 -- why a program stops at its next instruction
 pub stops_here : (start : Registers) (program : List ℕ) (most n : ℕ) (x : Tracer) (r : Result ChipInsn FaultKind) (cause : Cause) → Follows start program n x
     → r ≡ next_on x.registers.bus program x.registers.pc → n < most → stop_of r (trace_of x) ≡ Some cause → StopsAt start program most n cause
-stops_here start program most n x r cause w e less stop =
-    inl (less, ap (λ q. stop_of q (traced start program n)) (next_here start program n x r w e) ∙ ap (stop_of r) (sym w.reaches.trace) ∙ stop)
+stops_here start program most n x r cause w e less stop = grind (arith, next_here)
 
 -- a refusal has the place of its tracer
 pub refuses : (start : Registers) (program : List ℕ) (most n : ℕ) (x : Tracer) (cause : Cause) (a stored : ℕ) → Follows start program n x
     → StopsAt start program most n cause → HasAddress cause (places (unrolled x.src.items)) (written_in (trace_of x)) a → stored ≡ total_of x
     → Refuses start program most (record { cause = cause; pc = x.registers.pc; steps = n; addr = a; stored = stored })
-refuses start program most n x cause a stored w stops has total =
-    let at = w.reaches.trace in
-    let done = w.tracer.done in
-    record {
-      goes = w.reaches.goes;
-      pc = ap (λ (z : Trace). z.registers.pc) at;
-      stops = stops;
-      addr = subst (λ (z : Trace). HasAddress cause z.loads (written_in z) a) at has;
-      stored =
-          let all : stored ≡ length (written_in (trace_of x)) =
-          omega (
-            arith,
-            total,
-            ap (λ (d : Amounts). d.copied) done,
-            ap (λ (d : Amounts). d.cleared) done,
-            length-append (trace_of x).stores
-                (trace_of x).zeros,
-          ) in
-          all ∙ ap (λ (z : Trace). length (written_in z)) at;
-    }
+refuses start program most n x cause a stored w stops has total = grind (arith, length-append)
 
--- no cause among them has an address
-abbrev HaveNone : Option Cause → Type 0
-HaveNone o = (cause : Cause) (loads stores : List ℕ) → o ≡ Some cause → HasAddress cause loads stores 0
+-- an instruction before DMAEND stops for none of these causes
+never_twice : (i : ChipInsn) (z : Trace) → i ≢ End → stop_of_insn i z ≢ Some StoresTwice
+never_twice i z other = grind arith
 
-none_has : HaveNone None
-none_has cause loads stores e = absurd (cc)
+never_source : (i : ChipInsn) (z : Trace) → i ≢ End → stop_of_insn i z ≢ Some StoresSource
+never_source i z other = grind arith
 
-one_has : (c : Cause) → ((loads stores : List ℕ) → HasAddress c loads stores 0) → HaveNone (Some c)
-one_has c none cause loads stores e =
-    let same : c ≡ cause = cc in
-    subst (λ (d : Cause). HasAddress d loads stores 0) same (none loads stores)
+pub never_long : (i : ChipInsn) (z : Trace) → i ≢ End → stop_of_insn i z ≢ Some TooLong
+never_long i z other = grind arith
 
-either_has : (b : Bool) (o p : Option Cause) → HaveNone o → HaveNone p → HaveNone (cond b o p)
-either_has true o p h k = h
-either_has false o p h k = k
-
--- only DMAEND stops for a cause that has an address
-pub has_none : (i : ChipInsn) (z : Trace) → i ≢ End → HaveNone (stop_of_insn i z)
-has_none End z other = absurd (other refl)
-has_none Ld z other = either_has _ _ _ (one_has (Fails MfifoErr) (λ _ _. refl)) (either_has _ _ _ (one_has LoadsPast (λ _ _. refl)) none_has)
-has_none St z other =
-    either_has _ _ _ (one_has (Fails StDataUnavailable) (λ _ _. refl))
-    (either_has _ _ _ (one_has StoresPast (λ _ _. refl)) (either_has _ _ _ none_has (one_has StoresFixed (λ _ _. refl))))
-has_none (Mov Ccr w) z other = either_has _ _ _ (either_has _ _ _ (one_has DropsBytes (λ _ _. refl)) none_has) (one_has (Fails OperandInvalid) (λ _ _. refl))
-has_none (Mov Dar v) z other = either_has _ _ _ (one_has DropsBytes (λ _ _. refl)) none_has
-has_none (LpEnd c back) z other = either_has _ _ _ (one_has (Fails InstrFetchErr) (λ _ _. refl)) none_has
-has_none StoreZeros z other = either_has _ _ _ (one_has StoresPast (λ _ _. refl)) (either_has _ _ _ none_has (one_has StoresFixed (λ _ _. refl)))
-has_none (AddHalfword Destination half negative) z other = either_has _ _ _ (one_has DropsBytes (λ _ _. refl)) none_has
-has_none (LoopAgain counter back) z other = either_has _ _ _ (one_has (Fails InstrFetchErr) (λ _ _. refl)) none_has
-has_none i z other = none_has
-
--- no instruction stops for the program's length
-abbrev IsShort : Option Cause → Type 0
-IsShort o = o ≢ Some TooLong
-
-either_short : (b : Bool) (o p : Option Cause) → IsShort o → IsShort p → IsShort (cond b o p)
-either_short true o p h k = h
-either_short false o p h k = k
-
-none_short : IsShort None
-none_short e = cc
-
-one_short : (c : Cause) → c ≢ TooLong → IsShort (Some c)
-one_short c other e = other (let same : c ≡ TooLong = cc in same)
-
-pub never_long : (i : ChipInsn) (z : Trace) → i ≢ End → IsShort (stop_of_insn i z)
-never_long End z other = absurd (other refl)
-never_long Ld z other = either_short _ _ _ (one_short (Fails MfifoErr) (λ e. cc)) (either_short _ _ _ (one_short LoadsPast (λ e. cc)) none_short)
-never_long St z other =
-    either_short _ _ _ (one_short (Fails StDataUnavailable) (λ e. cc))
-    (either_short _ _ _ (one_short StoresPast (λ e. cc)) (either_short _ _ _ none_short (one_short StoresFixed (λ e. cc))))
-never_long (Mov Ccr w) z other =
-    either_short _ _ _ (either_short _ _ _ (one_short DropsBytes (λ e. cc)) none_short) (one_short (Fails OperandInvalid) (λ e. cc))
-never_long (Mov Dar v) z other = either_short _ _ _ (one_short DropsBytes (λ e. cc)) none_short
-never_long (LpEnd c back) z other = either_short _ _ _ (one_short (Fails InstrFetchErr) (λ e. cc)) none_short
-never_long StoreZeros z other = either_short _ _ _ (one_short StoresPast (λ e. cc)) (either_short _ _ _ none_short (one_short StoresFixed (λ e. cc)))
-never_long (AddHalfword Destination half negative) z other = either_short _ _ _ (one_short DropsBytes (λ e. cc)) none_short
-never_long (LoopAgain counter back) z other = either_short _ _ _ (one_short (Fails InstrFetchErr) (λ e. cc)) none_short
-never_long i z other = none_short
+-- so its cause has no address
+pub has_none : (i : ChipInsn) (z : Trace) → i ≢ End → (cause : Cause) (loads stores : List ℕ) → stop_of_insn i z ≡ Some cause
+    → HasAddress cause loads stores 0
+has_none i z h cause loads stores h2 = grind (arith, never_twice, never_source)
 
 pub refused_unexplained : RefusedUnexplained
 refused_unexplained start program most u r w n l h =
@@ -297,30 +214,10 @@ refused_unexplained start program most u r w n l h =
 
 -- DMAEND isn't among the instructions before it
 not_sooner : (start : Registers) (program : List ℕ) (w u : Work) (n m : ℕ) → Explains start program w n → Explains start program u m → m ≤ n
-not_sooner start program w u n m h g =
-    elim (cases_lt n m) [
-      | inr le ↦ le
-      | inl less ↦ absurd ((g.goes n less).0 h.ends)
-    ]
+not_sooner start program w u n m h g = grind (arith, cases_lt)
 
 pub explained_once : ExplainedOnce
-explained_once start program w u n m h g =
-    let one = not_sooner start program w u n m h g in
-    let two = not_sooner start program u w m n g h in
-    let same : n ≡ m = omega arith in (
-      same,
-      sym h.loads ∙ ap (λ (k : ℕ). (traced start program k).loads) same ∙ g.loads,
-      sym h.stores ∙ ap (λ (k : ℕ). (traced start program k).stores) same ∙ g.stores,
-      sym h.zeros ∙ ap (λ (k : ℕ). (traced start program k).zeros) same ∙ g.zeros,
-    )
+explained_once start program w u n m h g = grind (arith, not_sooner)
 
 pub found_once : FoundOnce
-found_once start program most limit x y f g =
-    let same = (explained_once start program (work_of x) (work_of y) f.before g.before f.explains g.explains).0 in
-    let items : items_of x ≡ items_of y = f.items ∙ ap (items_in start program) same ∙ sym g.items in
-    let work : Items → Work = λ i. record { copy = copying (unrolled i.reads) i.writes None None; zeros = i.zeros } in (
-      items,
-      f.size ∙ ap (λ (i : Items). all_of (work i)) items ∙ sym g.size,
-      f.events ∙ ap (events_in start program) same ∙ sym g.events,
-      f.steps ∙ ap (λ (n : ℕ). n + 1) same ∙ sym g.steps,
-    )
+found_once start program most limit x y f g = grind (arith, explained_once)

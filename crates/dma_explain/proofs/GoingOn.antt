@@ -1,5 +1,5 @@
 -- What it means that an instruction goes on.
-use Rattle.std.proofs.Common.{◌≡◌, ◌≢◌, ℕ, zero, suc, ◌+◌, ◌≤◌, ◌<◌, Bool, true, false, cond, ◌&&◌, List, length, Option, Some, None, Result, Ok, Err, refl, ap}
+use Rattle.std.proofs.Common.{◌≡◌, ◌≢◌, ℕ, zero, suc, ◌+◌, ◌≤◌, ◌<◌, Bool, true, false, cond, ◌&&◌, List, length, Option, Some, None, Result, Ok, ap}
 use Rattle.std.proofs.Common.{◌∙◌, arith, length-append}
 use Rattle.std.specs.Prelude.{nat_lt}
 use Rattle.std.proofs.{lemmas.Bool.le-ltb, lemmas.Bool.ltb-false, lemmas.Bool.Decides.nat_tests, lemmas.List.FromFn.length-range_with_len}
@@ -7,24 +7,20 @@ use Rattle.dma_insn.specs.declared.chip.ChipInsn.TheVariants.{Mov, Ld, St, End, 
 use Rattle.dma_insn.specs.declared.insn.Reg.TheVariants.{Ccr, Dar}
 use Rattle.dma_insn.specs.{declared.chip.ChipInsn.ChipInsn, declared.chip.Address.TheVariants.Destination}
 use Rattle.dma_mem.specs.Places.{end_of_addresses}
-use Rattle.dma_chan.specs.declared.turn.FaultKind.TheVariants.{OperandInvalid, MfifoErr, StDataUnavailable, InstrFetchErr}
 use Rattle.dma_chan.specs.Bursts.{burst_len, drops, span_of, touched}
 use Rattle.dma_chan.specs.Exec.{buffer_size, counter_of, destination_of, moved, source_of}
 use Rattle.dma_chan.specs.{declared.bursts.Burst.Burst, declared.exec.Registers.Registers, declared.turn.FaultKind.FaultKind, Bus.accepts}
 use Rattle.dma_explain.specs.declared.explain.Cause.{Cause}
-use Rattle.dma_explain.specs.declared.explain.Cause.TheVariants.{Fails, StoresPast, StoresFixed, DropsBytes}
 use Rattle.dma_explain.specs.Explains.{GoesOn, Trace, after_fetch, after_insn, held, next_in, passes, stop_of_insn, stop_of_mov, traced}
 use Rattle.dma_chan.proofs.ControlWords.{touched_up}
 
 -- ---- tests in turn
 
 pub none_first : (b : Bool) (c : Cause) (o : Option Cause) → cond b (Some c) o ≡ None → (b ≡ false) × (o ≡ None)
-none_first true c o e = absurd (cc)
-none_first false c o e = (refl, e)
+none_first b c o h = grind (arith)
 
 pub none_second : (b : Bool) (c : Cause) (o : Option Cause) → cond b o (Some c) ≡ None → (b ≡ true) × (o ≡ None)
-none_second true c o e = (refl, e)
-none_second false c o e = absurd (cc)
+none_second b c o h = grind (arith)
 
 pub passed : (b : Bool) (c : Cause) (o : Option Cause) → b ≡ false → o ≡ None → cond b (Some c) o ≡ None
 passed b c o e f = ap (λ (x : Bool). cond x (Some c) o) e ∙ f
@@ -39,10 +35,7 @@ dropped i x = let r = x.registers in nat_lt 0 (held x) && drops r.bus (destinati
 
 -- DMAMOV while the buffer is empty
 pub mov_empty : (i : ChipInsn) (x : Trace) → held x ≡ 0 → stop_of_mov i x ≡ None
-mov_empty i x e =
-    let r = x.registers in
-    passed (dropped i x) DropsBytes None
-    (ap (λ (b : Bool). b && drops r.bus (destination_of r) (destination_of (moved i r))) (le-ltb 0 (held x) (omega (arith, e)))) refl
+mov_empty i x e = grind (arith, passed, le-ltb)
 
 -- a burst that ends at or below the last address
 pub ends_low : (b : Burst) → b.addr + span_of b ≤ end_of_addresses → passes b ≡ false
@@ -73,42 +66,16 @@ abbrev pub Few : Trace → Type 0
 Few x = length x.stores ≤ length x.loads
 
 pub can : (i : ChipInsn) (x : Trace) → Few x → i ≢ End → stop_of_insn i x ≡ None → Can i x
-can Ld x few ne e =
-    let b = source_of x.registers in
-    let room = none_first (nat_lt buffer_size (held x + burst_len b)) (Fails MfifoErr) _ e in
-    omega (arith, ltb-false buffer_size (held x + burst_len b) room.0, few)
-can St x few ne e =
-    let b = destination_of x.registers in
-    let has = none_first (nat_lt (held x) (burst_len b)) (Fails StDataUnavailable) _ e in
-    let low = none_first (passes b) StoresPast _ has.1 in
-    let up = none_second b.increments StoresFixed None low.1 in (
-      omega (arith, ltb-false (held x) (burst_len b) has.0, few),
-      up.0,
-    )
-can (Mov Dar v) x few ne e = (none_first (dropped (Mov Dar v) x) DropsBytes None e).0
-can (Mov Ccr w) x few ne e =
-    let taken = none_second (accepts x.registers.bus w) (Fails OperandInvalid) _ e in
-    (taken.0, (none_first (dropped (Mov Ccr w) x) DropsBytes None taken.1).0)
-can (AddHalfword Destination half negative) x few ne e = (none_first (dropped (AddHalfword Destination half negative) x) DropsBytes None e).0
-can (LpEnd c back) x few ne e =
-    no_jump (counter_of c x.registers) x.registers.pc back
-    (none_first (nat_lt 0 (counter_of c x.registers) && nat_lt x.registers.pc back) (Fails InstrFetchErr) None e).0
-can End x few ne e = absurd (ne refl)
-can StoreZeros x few ne e = let b = destination_of x.registers in (none_second b.increments StoresFixed None (none_first (passes b) StoresPast _ e).1).0
-can (LoopAgain counter back) x few ne e = ltb-false x.registers.pc back (none_first (nat_lt x.registers.pc back) (Fails InstrFetchErr) None e).0
-can i x few ne e = tt
+can i x h h2 h3 = grind (arith, none_first, ltb-false, none_second, no_jump)
 
 few_insn : (i : ChipInsn) (x : Trace) → Few x → Can i x → Few (after_insn i x)
-few_insn Ld x few c = omega (arith, few, length-append x.loads (touched (source_of x.registers)))
-few_insn St x few c = let b = destination_of x.registers in omega (arith, c.0, length-append x.stores (touched b), length_up b c.1)
-few_insn i x few c = few
+few_insn i x h h2 = grind (arith, length-append, length_up)
 
 pub can_next : (i : ChipInsn) (x : Trace) → Few x → GoesOn (Ok i) x → Can i x
 can_next i x few go = can i x few (λ e. go.0 (ap (λ (j : ChipInsn). Ok j) e)) go.1
 
 few_next : (r : Result ChipInsn FaultKind) (x : Trace) → Few x → GoesOn r x → Few (after_fetch r x)
-few_next (Ok i) x few go = few_insn i x few (can_next i x few go)
-few_next (Err kind) x few go = absurd (let bad = go.1 in cc)
+few_next r x h h2 = grind (arith, few_insn, can_next)
 
 pub few_at : (start : Registers) (program : List ℕ) (k : ℕ) → ((j : ℕ) → j < k → GoesOn (next_in program (traced start program j)) (traced start program j))
     → Few (traced start program k)

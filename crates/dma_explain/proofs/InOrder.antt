@@ -1,8 +1,9 @@
 -- Whether regions are in order depends on their places alone, and so do the marks at the gaps between them.
-use Rattle.std.proofs.Common.{◌≡◌, ◌∙◌, ℕ, ◌+◌, Bool, true, ◌&&◌, List, [], ◌∷◌, map, ap, refl, sym, ◌++◌, ◌-◌}
+use Rattle.std.proofs.Common.{arith}
+use Rattle.std.proofs.Common.{◌≡◌, ◌∙◌, ℕ, ◌+◌, Bool, true, ◌&&◌, List, [], ◌∷◌, map, ap, refl, sym, ◌-◌}
 use Rattle.std.specs.Prelude.{nat_le}
 use Rattle.dma_mem.specs.Regions.{gaps_above, in_order, largest_end, pieces_of, read_only_of, rises_from}
-use Rattle.dma_mem.specs.{Lent.marks_at, Lent.stores_at, Marking.MarkList, declared.regions.Region.Region, declared.segment.Segment.Segment}
+use Rattle.dma_mem.specs.{Marking.MarkList, declared.regions.Region.Region, declared.segment.Segment.Segment}
 use Rattle.dma_chan.specs.LentRegions.{segment_of, with_gaps_of}
 
 -- whether segments rise from `at` on
@@ -31,6 +32,4 @@ between_is at (r ∷ rs) = ap (λ (ss : List Segment). record { addr = at; len =
 
 pub marks_kept : (rs left : List Region) (marks : MarkList) → map segment_of left ≡ map segment_of rs → read_only_of left ≡ read_only_of rs
     → with_gaps_of left marks ≡ with_gaps_of rs marks
-marks_kept rs left marks same access =
-    ap (λ (ss : List Segment). marks_at ss ++ (stores_at (read_only_of left) ++ marks)) (between_is 0 left ∙ ap (between 0) same ∙ sym (between_is 0 rs))
-    ∙ ap (λ (ss : List Segment). marks_at (gaps_above 0 (pieces_of rs)) ++ (stores_at ss ++ marks)) access
+marks_kept rs left marks same access = grind (arith, between_is)

@@ -1,12 +1,12 @@
 -- Lists of items, to whose ends items are joined.
-use Rattle.std.proofs.Common.{All, ◌≡◌, ℕ, zero, suc, ◌+◌, ◌^◌, ◌≤◌, ◌<◌, ◌⊎◌, Bool, true, false, cond, List, [], ◌∷◌, ◌++◌, length, take, get_or, set, Option}
+use Rattle.std.proofs.Common.{All, ◌≡◌, ℕ, zero, suc, ◌+◌, ◌^◌, ◌≤◌, ◌<◌, ◌⊎◌, List, [], ◌∷◌, ◌++◌, length, take, get_or, set, Option}
 use Rattle.std.proofs.Common.{Some, None, refl, sym, ap, ◌∙◌, subst, arith, append-nil, append_assoc, inl, inr}
-use Rattle.std.specs.{Prelude.replicate, Prelude.◌==◌, Prelude.◌&&◌, List.flat_map, List.range_with_len, Option.option_map_or}
-use Rattle.std.proofs.lemmas.Bool.{and_from, and_parts, both_ways, cases_Bool, cond-false, cond-true, eq-eqb, eqb-true, lt-ltb, ltb-true}
+use Rattle.std.specs.{Prelude.replicate, List.flat_map, List.range_with_len, Option.option_map_or}
+use Rattle.std.proofs.lemmas.Bool.Decides.{nat_tests}
 use Rattle.std.proofs.lemmas.List.{length-set, take_all, take_more_set}
 use Rattle.std.proofs.lemmas.List.Elements.{All-cons, All-head, All-nil, All-tail}
 use Rattle.dma_mem.specs.{declared.segment.Segment.Segment, Places.places, Places.range_of}
-use Rattle.dma_explain.specs.Items.{NoneJoin, Items, goes_on, is_again, join_first, join_read, join_run, with_item}
+use Rattle.dma_explain.specs.Items.{NoneJoin, Items, join_first, join_read, join_run, with_item}
 use Rattle.dma_explain.specs.{declared.explain.Repeated.Repeated, Explains.IsRead, Explains.IsRun, Explains.unrolled, inner.Tracing.AreItems}
 use Rattle.dma_chan.proofs.CutPlaces.{range_add}
 use Rattle.dma_explain.proofs.LowestPlaces.{read_again, reads, unrolled_reads}
@@ -66,13 +66,7 @@ module _ {A : Type 0} (join : A → A → Option A) where
     | inl one ↦
         let c = one.0 in
         let from : with_item join (a ∷ items) r ≡ join_first join a (c ∷ []) = ap (join_first join a) one.1 in
-        let by : (o : Option A) → join a c ≡ o → Grown (a ∷ items) (with_item join (a ∷ items) r) =
-        λ o. elim o as (λ o. join a c ≡ o → Grown (a ∷ items) (with_item join (a ∷ items) r)) [
-          | Some d ↦ λ e. inl (d, from ∙ first_joined a c d [] e)
-          | None ↦ λ e.
-              let is = from ∙ first_apart a c [] e in
-              inr (a, items, c ∷ [], refl, is, subst (NoneJoin join) (sym is) (e, tt))
-        ] in
+        let by : (o : Option A) → join a c ≡ o → Grown (a ∷ items) (with_item join (a ∷ items) r) = grind (arith, first_joined, first_apart) in
         by (join a c) refl
     | inr w ↦
         let b = w.0 in
@@ -128,25 +122,14 @@ RunOn a b = (a.addr + a.len ≡ b.addr) × (a.len + b.len < 2 ^ 32)
 abbrev both_runs : Segment → Segment → Segment
 both_runs a b = record a { len = a.len + b.len }
 
-on_true : (a n b m : ℕ) → a + n ≡ b → n + m < 2 ^ 32 → goes_on a n b m ≡ true
-on_true a n b m at few = and_from _ _ (eq-eqb (a + n) b at) (lt-ltb (n + m) (2 ^ 32) few)
-
-on_parts : (a n b m : ℕ) → goes_on a n b m ≡ true → (a + n ≡ b) × (n + m < 2 ^ 32)
-on_parts a n b m e = let w = and_parts _ _ e in (eqb-true (a + n) b w.0, ltb-true (n + m) (2 ^ 32) w.1)
-
 abbrev RunCases : Segment → Segment → Type 0
 RunCases a b = (RunOn a b × (join_run a b ≡ Some (both_runs a b))) ⊎ ((RunOn a b → ⊥) × (join_run a b ≡ None))
 
 pub run_cases : (a b : Segment) → RunCases a b
-run_cases a b =
-    let on = goes_on a.addr a.len b.addr b.len in
-    elim (cases_Bool on) [
-      | inl is ↦ inl (on_parts a.addr a.len b.addr b.len is, cond-true on _ _ is)
-      | inr off ↦ inr (λ w. let bad : true ≡ false = sym (on_true a.addr a.len b.addr b.len w.0 w.1) ∙ off in cc, cond-false on _ _ off)
-    ]
+run_cases a b = grind (arith, nat_tests)
 
 pub run_joins : (a b : Segment) → a.addr + a.len ≡ b.addr → a.len + b.len < 2 ^ 32 → join_run a b ≡ Some (both_runs a b)
-run_joins a b at few = cond-true _ _ _ (on_true a.addr a.len b.addr b.len at few)
+run_joins a b at few = grind (arith, nat_tests)
 
 run_sound : (a b c : Segment) → IsRun a → IsRun b → join_run a b ≡ Some c → IsRun c × (range_of c ≡ range_of a ++ range_of b)
 run_sound a b c p q e = elim (run_cases a b) [
@@ -212,30 +195,8 @@ read_twice a b = record a { times = a.times + b.times }
 abbrev pub read_longer : Repeated → Repeated → Repeated
 read_longer a b = record a { len = a.len + b.len }
 
-again_true : (a b : Repeated) → Again a b → is_again a b ≡ true
-again_true a b w = and_from _ _ (and_from _ _ (eq-eqb a.addr b.addr w.0) (eq-eqb a.len b.len w.1)) (lt-ltb (a.times + b.times) (2 ^ 32) w.2)
-
 pub again_joins : (a b : Repeated) → Again a b → join_read a b ≡ Some (read_twice a b)
-again_joins a b w = cond-true (is_again a b) _ _ (again_true a b w)
-
-again_parts : (a b : Repeated) → is_again a b ≡ true → Again a b
-again_parts a b e =
-    let w = and_parts _ _ e in
-    let v = and_parts _ _ w.0 in
-    (eqb-true a.addr b.addr v.0, eqb-true a.len b.len v.1, ltb-true (a.times + b.times) (2 ^ 32) w.1)
-
-abbrev once_on : Repeated → Repeated → Bool
-once_on a b = (a.times == 1 && b.times == 1) && goes_on a.addr a.len b.addr b.len
-
-once_true : (a b : Repeated) → ReadOn a b → once_on a b ≡ true
-once_true a b w = and_from _ _ (and_from _ _ (eq-eqb a.times 1 w.0) (eq-eqb b.times 1 w.1)) (on_true a.addr a.len b.addr b.len w.2 w.3)
-
-once_parts : (a b : Repeated) → once_on a b ≡ true → ReadOn a b
-once_parts a b e =
-    let w = and_parts _ _ e in
-    let v = and_parts _ _ w.0 in
-    let on = on_parts a.addr a.len b.addr b.len w.1 in
-    (eqb-true a.times 1 v.0, eqb-true b.times 1 v.1, on.0, on.1)
+again_joins a b w = grind (arith, nat_tests)
 
 abbrev ReadCases : Repeated → Repeated → Type 0
 ReadCases a b =
@@ -244,16 +205,7 @@ ReadCases a b =
     ⊎ ((Again a b → ⊥) × (ReadOn a b → ⊥) × (join_read a b ≡ None)))
 
 pub read_cases : (a b : Repeated) → ReadCases a b
-read_cases a b = elim (cases_Bool (is_again a b)) [
-  | inl again ↦ inl (again_parts a b again, cond-true (is_again a b) _ _ again)
-  | inr other ↦
-      let not_again : Again a b → ⊥ = λ w. both_ways (is_again a b) other (again_true a b w) in
-      let second : join_read a b ≡ cond (once_on a b) (Some (read_longer a b)) None = cond-false (is_again a b) _ _ other in
-      elim (cases_Bool (once_on a b)) [
-        | inl on ↦ inr (inl (once_parts a b on, second ∙ cond-true (once_on a b) _ _ on))
-        | inr off ↦ inr (inr (not_again, (λ w. both_ways (once_on a b) off (once_true a b w)), second ∙ cond-false (once_on a b) _ _ off))
-      ]
-]
+read_cases a b = grind (arith, nat_tests)
 
 read_sound : (a b c : Repeated) → IsRead a → IsRead b → join_read a b ≡ Some c → IsRead c × (reads c ≡ reads a ++ reads b)
 read_sound a b c p q e = elim (read_cases a b) [

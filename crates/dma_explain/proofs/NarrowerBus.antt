@@ -1,19 +1,19 @@
 -- A run without memory is the same on chips' buses of all widths, but for the bus. A narrower one drops no bytes where a
 -- wider one drops none.
-use Rattle.std.proofs.Common.{◌≡◌, ℕ, zero, suc, ◌+◌, ◌-◌, ◌%◌, ◌^◌, ◌≤◌, Bool, true, false, ◌&&◌, List, ◌++◌, None, Result, Ok, Err, refl, sym, ap, ◌∙◌, subst}
+use Rattle.std.proofs.Common.{◌≡◌, ℕ, zero, suc, ◌+◌, ◌-◌, ◌%◌, ◌^◌, ◌≤◌, Bool, true, false, ◌&&◌, List, None, Result, Ok, Err, refl, sym, ap, ◌∙◌, subst}
 use Rattle.std.proofs.Common.{arith}
-use Rattle.std.specs.Prelude.{◌==◌, ◌||◌, not, nat_lt}
+use Rattle.std.specs.Prelude.{◌||◌, not}
 use Rattle.std.proofs.{Math.Pow.mod-mod-pow, lemmas.Bool.eq-eqb, lemmas.Bool.eqb-true}
-use Rattle.dma_insn.specs.declared.chip.ChipInsn.TheVariants.{Mov, Ld, St, StoreZeros, AddHalfword}
+use Rattle.dma_insn.specs.declared.chip.ChipInsn.TheVariants.{Mov, AddHalfword}
 use Rattle.dma_insn.specs.declared.insn.Reg.TheVariants.{Ccr, Dar}
-use Rattle.dma_insn.specs.{ControlWord.field, declared.chip.ChipInsn.ChipInsn, declared.chip.Address.TheVariants.Destination}
+use Rattle.dma_insn.specs.{declared.chip.ChipInsn.ChipInsn, declared.chip.Address.TheVariants.Destination}
 use Rattle.dma_chan.specs.{declared.bus.Bus.Bus, declared.bus.Bus.TheVariants.Chip, declared.bus.BusWidth.BusWidth, declared.bursts.Burst.Burst}
 use Rattle.dma_chan.specs.{declared.exec.Registers.Registers, declared.turn.FaultKind.FaultKind, declared.turn.FaultKind.TheVariants.OperandInvalid}
-use Rattle.dma_chan.specs.{Bus.accepts, Bus.bus_code, Bursts.burst_at, Bursts.drops, Bursts.skip_of, Exec.destination_of, Exec.moved, Next.next_on}
-use Rattle.dma_explain.specs.Explains.{GoesOn, Trace, after_fetch, amounts_of, events_in, happening_of, held, next_in, stop_of_insn, stop_of_mov, traced}
+use Rattle.dma_chan.specs.{Bus.accepts, Bus.bus_code, Bursts.burst_at, Bursts.drops, Exec.moved, Next.next_on}
+use Rattle.dma_explain.specs.Explains.{GoesOn, Trace, after_fetch, events_in, next_in, stop_of_insn, stop_of_mov, traced}
 use Rattle.dma_explain.specs.OnBuses.{EventsOnWidths, ExplainedNarrower, TracedOnWidths, fits_bus}
-use Rattle.dma_explain.specs.{declared.explain.Cause.TheVariants.Fails, declared.explain.Cause.TheVariants.DropsBytes, declared.explain.Happening.Happening}
-use Rattle.dma_explain.proofs.GoingOn.{dropped, none_first, none_second, passed}
+use Rattle.dma_explain.specs.{declared.explain.Cause.TheVariants.Fails}
+use Rattle.dma_explain.proofs.GoingOn.{none_first, none_second, passed}
 use Rattle.dma_explain.proofs.OnBuses.{KeepsOn, MovesSame, explained_there, goes_on, insn_on, registers_on, trace_on, traced_bus}
 use Rattle.dma_chan.proofs.MembersByNumber.{bus_moved}
 
@@ -22,13 +22,7 @@ use Rattle.dma_chan.proofs.MembersByNumber.{bus_moved}
 -- a burst is the same on each chip's bus
 chip_burst : (v w : BusWidth) (k a c : ℕ) → burst_at (Chip v) k a c ≡ burst_at (Chip w) k a c
 unfolding burst_at
-chip_burst v w k a c =
-    ap (λ (n : ℕ). record { addr = a; increments = field k 1 c == 1; size = 2 ^ field (k + 1) 3 c; beats = field (k + 4) 4 c + 1; skip = n })
-    (by (field k 1 c == 1))
-  where
-    by : (up : Bool) → skip_of (Chip v) up a (2 ^ field (k + 1) 3 c) ≡ skip_of (Chip w) up a (2 ^ field (k + 1) 3 c)
-    by true = refl
-    by false = refl
+chip_burst v w k a c = grind arith
 
 -- equal byte lanes of a wide bus are equal ones of a narrower bus
 same_lanes : (a b m n : ℕ) → n ≤ m → a % 2 ^ m ≡ b % 2 ^ m → a % 2 ^ n ≡ b % 2 ^ n
@@ -38,21 +32,15 @@ same_lanes a b m n le e =
     sym (low a) ∙ ap (λ (x : ℕ). x % 2 ^ n) e ∙ low b
 
 or_rest : (x y rest : Bool) → (x ≡ true → y ≡ true) → (not x || rest) ≡ false → (not y || rest) ≡ false
-or_rest true y rest f e = ap (λ (b : Bool). not b || rest) (f refl) ∙ e
-or_rest false y rest f e = absurd (cc)
+or_rest x y rest h h2 = grind (arith)
 
 and_both : (x y z : Bool) → (y ≡ false → z ≡ false) → (x && y) ≡ false → (x && z) ≡ false
-and_both true y z f e = f e
-and_both false y z f e = refl
+and_both x y z h h2 = grind (arith)
 
 -- a narrower bus drops no bytes where a wider one drops none
 drops_less : (wide narrow : BusWidth) (old new : Burst) → bus_code narrow ≤ bus_code wide → drops (Chip wide) old new ≡ false
     → drops (Chip narrow) old new ≡ false
-drops_less wide narrow old new le =
-    let m = bus_code wide in
-    let n = bus_code narrow in
-    or_rest (old.addr % 2 ^ m == new.addr % 2 ^ m) (old.addr % 2 ^ n == new.addr % 2 ^ n) _
-    (λ e. eq-eqb (old.addr % 2 ^ n) (new.addr % 2 ^ n) (same_lanes old.addr new.addr m n le (eqb-true (old.addr % 2 ^ m) (new.addr % 2 ^ m) e)))
+drops_less wide narrow old new le = grind (arith, or_rest, eq-eqb, same_lanes, eqb-true)
 
 -- ---- runs
 
@@ -64,56 +52,29 @@ module _ (width other : BusWidth) where
   destination_there r on = chip_burst other width 14 r.dar r.ccr ∙ ap (λ (b : Bus). burst_at b 14 r.dar r.ccr) (sym on)
 
   moves_there : (i : ChipInsn) (r : Registers) → r.bus ≡ Chip width → MovesSame (Chip other) i r
-  moves_there Ld r on = source_there r on
-  moves_there St r on = destination_there r on
-  moves_there StoreZeros r on = destination_there r on
-  moves_there i r on = tt
+  moves_there i r h = grind (arith, source_there, destination_there)
 
   next_there : (program : List ℕ) (x : Trace) → x.registers.bus ≡ Chip width → next_in program (trace_on (Chip other) x) ≡ next_in program x
   next_there program x on = ap (λ (b : Bus). next_on b program x.registers.pc) (sym on)
 
   fetch_there : (r : Result ChipInsn FaultKind) (x : Trace) → x.registers.bus ≡ Chip width
       → after_fetch r (trace_on (Chip other) x) ≡ trace_on (Chip other) (after_fetch r x)
-  fetch_there (Ok i) x on = insn_on (Chip other) i x (moves_there i x.registers on)
-  fetch_there (Err kind) x on = refl
+  fetch_there r x h = grind (arith, insn_on, moves_there)
 
   run_there : (start : Registers) (program : List ℕ) (n : ℕ) → start.bus ≡ Chip width
       → traced (registers_on (Chip other) start) program n ≡ trace_on (Chip other) (traced start program n)
   run_there start program zero on = refl
-  run_there start program (suc n) on =
-      let x = traced start program n in
-      let here = traced_bus start program n ∙ on in
-      ap (λ (y : Trace). after_fetch (next_in program y) y) (run_there start program n on)
-      ∙ ap (λ (r : Result ChipInsn FaultKind). after_fetch r (trace_on (Chip other) x)) (next_there program x here)
-      ∙ fetch_there (next_in program x) x here
+  run_there start program (suc n) on = grind (arith, traced_bus, next_there, fetch_there, run_there start program n on)
 
   events_there : (start : Registers) (program : List ℕ) (n : ℕ) → start.bus ≡ Chip width
       → events_in (registers_on (Chip other) start) program n ≡ events_in start program n
-  events_there start program zero on = refl
-  events_there start program (suc n) on =
-      let x = traced start program n in
-      ap (λ (es : List Happening). es ++ happening_of (next_in program (traced (registers_on (Chip other) start) program n))
-      (amounts_of (traced (registers_on (Chip other) start) program n))) (events_there start program n on)
-      ∙ ap (λ (y : Trace). events_in start program n ++ happening_of (next_in program y) (amounts_of y)) (run_there start program n on)
-      ∙ ap (λ (r : Result ChipInsn FaultKind). events_in start program n ++ happening_of r (amounts_of x))
-      (next_there program x (traced_bus start program n ∙ on))
+  events_there start program n h = grind (arith, run_there, next_there, traced_bus)
 
   -- an instruction that computes the same registers, but for the bus, drops no bytes on a narrower bus
   mov_there : (i : ChipInsn) (x : Trace) → x.registers.bus ≡ Chip width → bus_code other ≤ bus_code width
       → moved i (registers_on (Chip other) x.registers) ≡ registers_on (Chip other) (moved i x.registers) → stop_of_mov i x ≡ None
       → stop_of_mov i (trace_on (Chip other) x) ≡ None
-  mov_there i x on le same g =
-      let r = x.registers in
-      let old = destination_of r in
-      let new = destination_of (moved i r) in
-      let less : drops r.bus old new ≡ false → drops (Chip other) old new ≡ false =
-      λ e. drops_less width other old new le (subst (λ (b : Bus). drops b old new ≡ false) on e) in
-      let to : destination_of (moved i (registers_on (Chip other) r)) ≡ new = ap destination_of same ∙ destination_there (moved i r) (bus_moved i r ∙ on) in
-      let there : dropped i (trace_on (Chip other) x) ≡ (nat_lt 0 (held x) && drops (Chip other) old new) =
-      ap (λ (b : Burst). nat_lt 0 (held x) && drops (Chip other) b (destination_of (moved i (registers_on (Chip other) r)))) (destination_there r on)
-      ∙ ap (λ (b : Burst). nat_lt 0 (held x) && drops (Chip other) old b) to in
-      passed (dropped i (trace_on (Chip other) x)) DropsBytes None
-      (there ∙ and_both (nat_lt 0 (held x)) (drops r.bus old new) (drops (Chip other) old new) less (none_first (dropped i x) DropsBytes None g).0) refl
+  mov_there i x on le same g = grind (arith, drops_less, destination_there, bus_moved, passed, and_both, none_first)
 
   keeps_there : (i : ChipInsn) (x : Trace) → x.registers.bus ≡ Chip width → bus_code other ≤ bus_code width → stop_of_insn i x ≡ None → KeepsOn (Chip other) i x
   keeps_there (Mov Dar v) x on le g = mov_there (Mov Dar v) x on le refl g

@@ -1,33 +1,26 @@
 -- A run without memory is the same on each bus, but for the bus, if its bursts are the same there: as they are if they
 -- begin at multiples of their beats' sizes.
-use Rattle.std.proofs.Common.{◌≡◌, ℕ, zero, suc, ◌+◌, ◌≤◌, ◌<◌, Bool, true, cond, List, ◌++◌, Some, None, Result, Ok, Err, refl, sym, ap, ◌∙◌, subst, arith}
+use Rattle.std.proofs.Common.{◌≡◌, ℕ, zero, suc, ◌≤◌, ◌<◌, true, List, None, Result, Ok, Err, refl, sym, ap, ◌∙◌, subst, arith}
 use Rattle.std.proofs.lemmas.Bool.{and_from, and_parts}
-use Rattle.dma_insn.specs.declared.insn.Reg.TheVariants.{Sar, Dar, Ccr}
-use Rattle.dma_insn.specs.declared.chip.ChipInsn.TheVariants.{Mov, Ld, St, Lp, LpEnd, StoreZeros, AddHalfword, End}
-use Rattle.dma_insn.specs.{ControlWord.is_control, declared.insn.Counter.Counter, declared.insn.Counter.TheVariants.Lc0, declared.insn.Counter.TheVariants.Lc1}
-use Rattle.dma_insn.specs.{declared.chip.ChipInsn.ChipInsn, declared.chip.Address.TheVariants.Source, declared.chip.Address.TheVariants.Destination}
-use Rattle.std.specs.Prelude.{nat_lt}
-use Rattle.dma_chan.specs.declared.turn.FaultKind.TheVariants.{OperandInvalid, MfifoErr, StDataUnavailable}
-use Rattle.dma_chan.specs.Bursts.{IsAligned, advance, burst_len, touched}
-use Rattle.dma_chan.specs.Exec.{buffer_size, destination_of, looped, past, source_of, wrapped}
+use Rattle.dma_insn.specs.declared.insn.Reg.TheVariants.{Dar, Ccr}
+use Rattle.dma_insn.specs.declared.chip.ChipInsn.TheVariants.{Mov, Ld, St, StoreZeros, AddHalfword, End}
+use Rattle.dma_insn.specs.{declared.insn.Counter.Counter}
+use Rattle.dma_insn.specs.{declared.chip.ChipInsn.ChipInsn, declared.chip.Address.TheVariants.Destination}
+use Rattle.dma_chan.specs.Bursts.{IsAligned}
+use Rattle.dma_chan.specs.Exec.{destination_of, looped, source_of}
 use Rattle.dma_chan.specs.{declared.bus.Bus.Bus, declared.bus.Bus.TheVariants.Ideal, declared.exec.Registers.Registers, declared.turn.FaultKind.FaultKind}
-use Rattle.dma_chan.specs.{Bus.accepts, Bus.fits, declared.bursts.Burst.Burst, Next.next_on}
-use Rattle.dma_explain.specs.declared.explain.Cause.TheVariants.{Fails, LoadsPast, StoresPast, StoresFixed}
+use Rattle.dma_chan.specs.{Next.next_on}
 use Rattle.dma_explain.specs.OnBuses.{ExplainedOnBus, IsAlignedTo, MovesAligned, SetsEmpty, fits_bus}
-use Rattle.dma_explain.specs.Explains.{Explains, GoesOn, Trace, Work, after_fetch, after_insn, held, next_in, passes, stop_of_insn, stop_of_mov, traced}
+use Rattle.dma_explain.specs.Explains.{Explains, GoesOn, Trace, Work, after_fetch, after_insn, held, next_in, stop_of_insn, stop_of_mov, traced}
 use Rattle.dma_chan.proofs.{ControlWords.same_burst, NextFits.next_widens, MembersByNumber.bus_moved}
 use Rattle.dma_explain.proofs.GoingOn.{mov_empty, none_second}
 
 -- a run stays on its bus
 insn_bus : (i : ChipInsn) (x : Trace) → (after_insn i x).registers.bus ≡ x.registers.bus
-insn_bus Ld x = refl
-insn_bus St x = refl
-insn_bus StoreZeros x = refl
-insn_bus i x = bus_moved i x.registers
+insn_bus i x = grind (arith, bus_moved)
 
 fetch_bus : (r : Result ChipInsn FaultKind) (x : Trace) → (after_fetch r x).registers.bus ≡ x.registers.bus
-fetch_bus (Ok i) x = insn_bus i x
-fetch_bus (Err kind) x = refl
+fetch_bus r x = grind (arith, insn_bus)
 
 pub traced_bus : (start : Registers) (program : List ℕ) (n : ℕ) → (traced start program n).registers.bus ≡ start.bus
 traced_bus start program zero = refl
@@ -42,8 +35,7 @@ module _ (bus : Bus) where
   trace_on x = record x { registers = registers_on x.registers }
 
   looped_on : (k : ℕ) (c : Counter) (back : ℕ) (r : Registers) → looped k c back (registers_on r) ≡ registers_on (looped k c back r)
-  looped_on (suc k) Lc0 back r = refl
-  looped_on k c back r = refl
+  looped_on k c back r = grind (arith)
 
   -- a burst at a multiple of its beat's size is the same on the bus
   source_on : (r : Registers) → IsAligned (source_of r) → source_of (registers_on r) ≡ source_of r
@@ -60,27 +52,10 @@ module _ (bus : Bus) where
   MovesSame i r = Unit {0}
 
   aligned_same : (i : ChipInsn) (r : Registers) → MovesAligned (Ok i) r → MovesSame i r
-  aligned_same Ld r a = source_on r a
-  aligned_same St r a = destination_on r a
-  aligned_same StoreZeros r a = destination_on r a
-  aligned_same i r a = tt
+  aligned_same i r h = grind (arith, source_on, destination_on)
 
   pub insn_on : (i : ChipInsn) (x : Trace) → MovesSame i x.registers → after_insn i (trace_on x) ≡ trace_on (after_insn i x)
-  insn_on (LpEnd Lc0 back) x a = ap (λ (r : Registers). record x { registers = r }) (looped_on x.registers.lc0 Lc0 back x.registers)
-  insn_on (LpEnd Lc1 back) x a = ap (λ (r : Registers). record x { registers = r }) (looped_on x.registers.lc1 Lc1 back x.registers)
-  insn_on Ld x a =
-      let r = registers_on x.registers in
-      ap (λ (b : Burst). record x { registers = past Ld (record r { sar = wrapped (r.sar + advance b) }); loads = x.loads ++ touched b }) a
-  insn_on St x a =
-      let r = registers_on x.registers in
-      ap (λ (b : Burst). record x { registers = past St (record r { dar = wrapped (r.dar + advance b) }); stores = x.stores ++ touched b }) a
-  insn_on StoreZeros x a =
-      let r = registers_on x.registers in
-      ap (λ (b : Burst). record x { registers = past StoreZeros (record r { dar = wrapped (r.dar + advance b) }); zeros = x.zeros ++ touched b }) a
-  insn_on (AddHalfword Source half negative) x a = refl
-  insn_on (Mov Sar v) x a = refl
-  insn_on (Lp Lc0 n) x a = refl
-  insn_on i x a = refl
+  insn_on i x h = grind (arith, looped_on)
 
   -- an instruction that is fetched on the ideal bus is fetched on the bus
   next_same : (program : List ℕ) (x : Trace) (i : ChipInsn) → x.registers.bus ≡ Ideal → next_in program x ≡ Ok i → next_in program (trace_on x) ≡ Ok i
@@ -112,27 +87,11 @@ module _ (bus : Bus) where
   KeepsOn i x = Unit {0}
 
   empty_keeps : (i : ChipInsn) (x : Trace) → SetsEmpty (Ok i) (held x) → KeepsOn i x
-  empty_keeps (Mov Dar v) x d = mov_empty (Mov Dar v) (trace_on x) d
-  empty_keeps (Mov Ccr w) x d = mov_empty (Mov Ccr w) (trace_on x) d
-  empty_keeps (AddHalfword Destination half negative) x d = mov_empty (AddHalfword Destination half negative) (trace_on x) d
-  empty_keeps i x d = tt
+  empty_keeps i x h = grind (arith, mov_empty)
 
   pub goes_on : (i : ChipInsn) (x : Trace) → fits_bus bus (Ok i) ≡ true → MovesSame i x.registers → KeepsOn i x → stop_of_insn i x ≡ None
       → stop_of_insn i (trace_on x) ≡ None
-  goes_on (Mov Ccr v) x f a d g =
-      let valid = (and_parts (fits x.registers.bus v) (is_control v) (none_second (accepts x.registers.bus v) (Fails OperandInvalid) _ g).0).1 in
-      ap (λ (b : Bool). cond b (stop_of_mov (Mov Ccr v) (trace_on x)) (Some (Fails OperandInvalid))) (and_from (fits bus v) (is_control v) f valid) ∙ d
-  goes_on (Mov Sar v) x f a d g = refl
-  goes_on (AddHalfword Destination half negative) x f a d g = d
-  goes_on (Mov Dar v) x f a d g = d
-  goes_on Ld x f a d g =
-      subst (λ (b : Burst). cond (nat_lt buffer_size (held x + burst_len b)) (Some (Fails MfifoErr)) (cond (passes b) (Some LoadsPast) None) ≡ None) (sym a) g
-  goes_on St x f a d g =
-      subst (λ (b : Burst). cond (nat_lt (held x) (burst_len b)) (Some (Fails StDataUnavailable))
-      (cond (passes b) (Some StoresPast) (cond b.increments None (Some StoresFixed))) ≡ None) (sym a) g
-  goes_on StoreZeros x f a d g = subst (λ (b : Burst). cond (passes b) (Some StoresPast) (cond b.increments None (Some StoresFixed)) ≡ None) (sym a) g
-  goes_on (LpEnd Lc0 back) x f a d g = g
-  goes_on i x f a d g = g
+  goes_on i x h h2 h3 h4 = grind (arith, and_parts, none_second, and_from)
 
   goes_next : (program : List ℕ) (r : Result ChipInsn FaultKind) (x : Trace) → x.registers.bus ≡ Ideal → next_in program x ≡ r → fits_bus bus r ≡ true
       → MovesAligned r x.registers → SetsEmpty r (held x) → GoesOn r x → GoesOn (next_in program (trace_on x)) (trace_on x)
@@ -148,26 +107,7 @@ module _ (bus : Bus) where
 
   pub explained_there : (start : Registers) (program : List ℕ) (w : Work) (n : ℕ) → Explains start program w n → GoesThere start program n
       → Explains (registers_on start) program w n
-  explained_there start program w n h there =
-      let last = there.same n (omega arith) in
-      record {
-        goes = λ k l.
-            subst (λ (y : Trace). GoesOn (next_in program y) y) (sym (there.same k (omega arith))) (there.goes k l);
-        ends = ap (λ (y : Trace). next_in program y) last ∙ there.ends;
-        loads = ap (λ (y : Trace). y.loads) last ∙ h.loads;
-        stores = ap (λ (y : Trace). y.stores) last ∙ h.stores;
-        zeros = ap (λ (y : Trace). y.zeros) last ∙ h.zeros;
-        few = h.few;
-        work = h.work;
-      }
+  explained_there start program w n h there = grind arith
 
 pub explained_on_bus : ExplainedOnBus
-explained_on_bus start bus program w n ideal h fit aligned keeps =
-    let on : (k : ℕ) → (traced start program k).registers.bus ≡ Ideal = λ k. traced_bus start program k ∙ ideal in
-    explained_there bus start program w n h (record {
-      same = λ k l. traced_on bus start program k ideal (λ j less. h.goes j (omega arith)) (λ j less. aligned j (omega arith));
-      goes = λ k l.
-          let x = traced start program k in
-          goes_next bus program (next_in program x) x (on k) refl (fit k l) (aligned k l) (keeps k l) (h.goes k l);
-      ends = next_same bus program (traced start program n) End (on n) h.ends;
-    })
+explained_on_bus start bus program w n ideal h fit aligned keeps = grind (arith, traced_bus, explained_there, traced_on, goes_next, next_same)

@@ -1,27 +1,27 @@
 -- What a channel does at the instruction at which `explain` refuses its program.
 use Rattle.std.proofs.Common.{◌≡◌, ◌≢◌, ℕ, zero, suc, ◌+◌, ◌≤◌, ◌<◌, Bool, true, false, cond, ◌&&◌, List, [], ◌∷◌, length, Option, Some, None, Result, Ok, Err}
 use Rattle.std.proofs.Common.{refl, sym, ap, ◌∙◌, subst, arith, inl, inr, length-append, true≢false}
-use Rattle.std.specs.Prelude.{is_some, nat_lt, not, slice_index, slice_index_or}
-use Rattle.std.specs.{List.list_any, List.range_with_len, Option.option_and_then}
+use Rattle.std.specs.Prelude.{is_some, nat_lt, not}
+use Rattle.std.specs.{List.list_any, Option.option_and_then}
 use Rattle.std.proofs.{lemmas.Bool.cases_lt, lemmas.Bool.cond_both, lemmas.Bool.Decides.nat_tests, lemmas.List.length-drop, lemmas.List.length-map}
 use Rattle.std.proofs.{lemmas.Option.none-some, lemmas.Option.same_Some}
 use Rattle.dma_insn.specs.declared.insn.Reg.TheVariants.{Ccr, Dar}
 use Rattle.dma_insn.specs.declared.chip.ChipInsn.TheVariants.{Mov, Ld, St, End, LpEnd, Sev, Wfe, StoreZeros, AddHalfword, LoopAgain}
 use Rattle.dma_insn.specs.{declared.chip.Address.TheVariants.Destination, declared.chip.ChipInsn.ChipInsn}
-use Rattle.dma_mem.specs.{Places.end_of_addresses, Places.share, Marking.MarkList, Marking.is_marked, declared.marks.MarkKind.MarkKind}
+use Rattle.dma_mem.specs.{Places.end_of_addresses, Marking.MarkList, Marking.is_marked, declared.marks.MarkKind.MarkKind}
 use Rattle.dma_mem.specs.{declared.marks.MarkKind.TheVariants.Reading, declared.marks.MarkKind.TheVariants.Writing}
 use Rattle.dma_chan.specs.declared.turn.ChanTurn.TheVariants.{Moved, Waiting, Ended, Fault}
-use Rattle.dma_chan.specs.declared.turn.FaultKind.TheVariants.{OperandInvalid, MfifoErr, StDataUnavailable, InstrFetchErr, DataWriteErr, DataReadErr}
-use Rattle.dma_chan.specs.Bursts.{burst_len, reaches, span_of, touched}
-use Rattle.dma_chan.specs.Channel.{ChannelValue, after_turn, ahead_of, code_of, last_count, state_of, step_of, stepped, stored_by}
-use Rattle.dma_chan.specs.Exec.{ChangesNothing, State, act, buffer_size, counter_of, destination_of, exec_fetched, fault_in, faults, kept, moved, read_at}
+use Rattle.dma_chan.specs.declared.turn.FaultKind.TheVariants.{MfifoErr, StDataUnavailable, InstrFetchErr, DataWriteErr, DataReadErr}
+use Rattle.dma_chan.specs.Bursts.{burst_len, reaches, touched}
+use Rattle.dma_chan.specs.Channel.{ChannelValue, ahead_of, code_of, last_count, state_of, step_of, stepped}
+use Rattle.dma_chan.specs.Exec.{State, act, buffer_size, destination_of, exec_fetched, fault_in, faults, kept, moved}
 use Rattle.dma_chan.specs.Exec.{source_of, state}
 use Rattle.dma_chan.specs.Stepping.{Machine, TakesSteps, after_step, after_steps, answer_at, goes_on_after, signal_after, signal_of}
 use Rattle.dma_chan.specs.{declared.exec.Registers.Registers, declared.turn.ChanTurn.ChanTurn, declared.turn.FaultKind.FaultKind, declared.bursts.Burst.Burst}
-use Rattle.dma_chan.specs.{Bus.accepts, Next.next_on, inner.Spans.MovesSome}
-use Rattle.dma_explain.specs.declared.explain.Cause.TheVariants.{Fails, LoadsPast, StoresPast, StoresFixed, DropsBytes, BytesLeft, StoresTwice, StoresSource}
-use Rattle.dma_explain.specs.Explains.{GoesOn, IsSignal, Refuses, StopsAt, Trace, after_fetch, after_insn, amounts_of, has_twice, held, next_in, passes}
-use Rattle.dma_explain.specs.Explains.{stop_of, stop_of_insn, stop_of_lists, stop_of_mov, traced, written_in}
+use Rattle.dma_chan.specs.{inner.Spans.MovesSome}
+use Rattle.dma_explain.specs.declared.explain.Cause.TheVariants.{Fails, LoadsPast, StoresPast, StoresFixed, DropsBytes}
+use Rattle.dma_explain.specs.Explains.{GoesOn, IsSignal, Refuses, StopsAt, Trace, after_insn, amounts_of, held, next_in, passes}
+use Rattle.dma_explain.specs.Explains.{stop_of, stop_of_insn, stop_of_mov, traced}
 use Rattle.dma_explain.specs.Refusals.{FaultsAreRefusals, FirstGoOn, ExecutesFirst, RefusalsAreFaults, fault_of_cause}
 use Rattle.dma_explain.specs.{declared.explain.Amounts.Amounts, declared.explain.Cause.Cause, declared.explain.Unexplained.Unexplained}
 use Rattle.dma_chan.proofs.SteppedOver.{is_still, steps_size, was_moved, went_before}
@@ -42,31 +42,7 @@ module _ (marks : MarkList) (x : Trace) (buffer image : List ℕ) (flags : List 
   keeps i none = ap length (kept_held x.registers (moved i x.registers) buffer _ holds none) ∙ holds
 
   holds_after : (i : ChipInsn) → Few x → Can i x → Holds i x (act marks i here)
-  holds_after Ld few c =
-      let b = source_of x.registers in
-      let new = touched b in
-      cond_both (nat_lt buffer_size (length buffer + burst_len b)) _ _ (Holds Ld x) (λ full e. absurd (cc))
-      (λ room. cond_both (reaches Reading marks (length image) new) _ _ (Holds Ld x)
-      (λ all e. omega (arith, few, holds, length-append buffer (read_at image new), length-map new (slice_index image), length-append x.loads new))
-      (λ no e. absurd (cc)))
-  holds_after St few c =
-      let b = destination_of x.registers in
-      let new = touched b in
-      cond_both (nat_lt (length buffer) (burst_len b)) _ _ (Holds St x) (λ less e. absurd (cc))
-      (λ enough. cond_both (reaches Writing marks (length image) new) _ _ (Holds St x)
-      (λ all e. omega (arith, holds, length-drop (burst_len b) buffer, length-append x.stores new, length_up b c.1))
-      (λ no e. absurd (cc)))
-  holds_after (Mov Dar v) few c = λ e. keeps (Mov Dar v) c
-  holds_after (Mov Ccr v) few c = rw c.0 (λ e. keeps (Mov Ccr v) c.1)
-  holds_after (AddHalfword Destination half negative) few c = λ e. keeps (AddHalfword Destination half negative) c
-  holds_after (LpEnd k back) few c =
-      cond_both (nat_lt 0 (counter_of k x.registers) && nat_lt x.registers.pc back) _ _ (Holds (LpEnd k back) x) (λ bad e. absurd (cc)) (λ good e. holds)
-  holds_after (LoopAgain k back) few c = cond_both (nat_lt x.registers.pc back) _ _ (Holds (LoopAgain k back) x) (λ bad e. absurd (cc)) (λ good e. holds)
-  holds_after StoreZeros few c =
-      cond_both (reaches Writing marks (length image) (touched (destination_of x.registers))) _ _ (Holds StoreZeros x) (λ all e. holds) (λ no e. absurd (cc))
-  holds_after (Wfe n v) few c = cond_both (slice_index_or flags n false) _ _ (Holds (Wfe n v) x) (λ set e. holds) (λ clear e. absurd (cc))
-  holds_after End few c = absurd c
-  holds_after i few c = λ e. holds
+  holds_after i h h2 = grind (arith, cond_both, length-append, length-map, length-drop, length_up, keeps)
 
 -- ---- a channel beside the run without memory
 
@@ -78,36 +54,16 @@ pub record Beside (start : Registers) (program : List ℕ) (k : ℕ) (c : Channe
 
 module _ (start : Registers) (program : List ℕ) where
   ahead_beside : (k : ℕ) (c : ChannelValue) → Beside start program k c → ahead_of c ≡ next_in program (traced start program k)
-  ahead_beside k c b =
-      ap (λ (xs : List ℕ). next_on c.registers.bus xs c.registers.pc) b.code
-      ∙ ap (λ (r : Registers). next_on r.bus program r.pc) b.registers
+  ahead_beside k c b = grind arith
 
   moved_by : (k : ℕ) (marks : MarkList) (c : ChannelValue) (image : List ℕ) (flags : List Bool) (next : Result ChipInsn FaultKind) → Beside start program k c
       → Few (traced start program k) → next_in program (traced start program k) ≡ next → GoesOn next (traced start program k)
       → (step_of marks c image flags).0 ≡ Moved → Beside start program (suc k) (stepped marks c image flags)
-  moved_by k marks c image flags (Err kind) b few next go moves = absurd (let bad = go.1 in cc)
-  moved_by k marks c image flags (Ok i) b few next go moves =
-      let x = traced start program k in
-      let s = state_of c image flags in
-      let e = step_of marks c image flags in
-      let does : e ≡ act marks i s = ap (λ (r : Result ChipInsn FaultKind). exec_fetched marks r s) (ahead_beside k c b ∙ next) in
-      let turn : (act marks i s).0 ≡ Moved = sym (ap (λ (y : ChanTurn × State). y.0) does) ∙ moves in
-      let after : traced start program (suc k) ≡ after_insn i x = ap (λ (r : Result ChipInsn FaultKind). after_fetch r x) next in
-      let channel : stepped marks c image flags ≡ after_turn Moved e.1 (stored_by (ahead_of c) c.registers) c =
-      ap (λ (t : ChanTurn). after_turn t e.1 (stored_by (ahead_of c) c.registers) c) moves in
-      let holds = subst (λ (r : Registers). Holds i x (act marks i (state r c.buffer image flags))) (sym b.registers)
-      (holds_after marks x c.buffer image flags b.holds i few (can_next i x few go)) in
-      subst (Beside start program (suc k)) (sym channel) (record {
-        code = b.code;
-        registers = ap (λ (y : ChanTurn × State). y.1.registers) does ∙ act_leads marks i s turn ∙ ap (moved i) b.registers ∙ sym (registers_after i x)
-            ∙ sym (ap (λ (y : Trace). y.registers) after);
-        holds = ap (λ (y : ChanTurn × State). length y.1.buffer) does ∙ holds turn ∙ sym (ap held after);
-      })
+  moved_by k marks c image flags next h h2 h3 h4 h5 = grind (arith, ahead_beside, holds_after, can_next, act_leads, registers_after)
 
   beside : (n : ℕ) (marks : ℕ → MarkList) (channel : ℕ → ChannelValue) (image : ℕ → List ℕ) (flags : ℕ → List Bool) → FirstGoOn start program n
       → ExecutesFirst start program n marks channel image flags → (k : ℕ) → k ≤ n → Beside start program k (channel k)
-  beside n marks channel image flags goes g zero l =
-      subst (Beside start program zero) (sym g.begins.2) (record { code = g.begins.1; registers = refl; holds = refl })
+  beside n marks channel image flags goes g zero l = grind arith
   beside n marks channel image flags goes g (suc k) l =
       let less : k < n = omega arith in
       let next : suc k ≡ k + 1 = omega arith in
@@ -128,18 +84,12 @@ all_past hit size n past low = grind (arith, nat_tests)
 -- it fails in each memory of at most 2^32 bytes
 past_fails : (kind : MarkKind) (marks : MarkList) (size : ℕ) (b : Burst) → MovesSome b → passes b ≡ true → size ≤ end_of_addresses
     → reaches kind marks size (touched b) ≡ false
-past_fails kind marks size b some past low =
-    reaches_span kind marks size b some
-    ∙ all_past (list_any (is_marked kind marks) (range_with_len b.addr (span_of b))) size (b.addr + span_of b) past low
+past_fails kind marks size b some past low = grind (arith, reaches_span, all_past)
 
 -- only it fails in a memory of 2^32 bytes without marks
 whole_reached : (kind : MarkKind) (marks : MarkList) (size : ℕ) (b : Burst) → MovesSome b → size ≡ end_of_addresses → marks ≡ []
     → reaches kind marks size (touched b) ≡ not (passes b)
-whole_reached kind marks size b some all unmarked =
-    reaches_span kind marks size b some
-    ∙ ap (λ (ms : MarkList). not (list_any (is_marked kind ms) (range_with_len b.addr (span_of b))) && not (nat_lt size (b.addr + span_of b))) unmarked
-    ∙ ap (λ (hit : Bool). not hit && not (nat_lt size (b.addr + span_of b))) (none_marked kind (range_with_len b.addr (span_of b)))
-    ∙ ap (λ (n : ℕ). not (nat_lt n (b.addr + span_of b))) all
+whole_reached kind marks size b some all unmarked = grind (arith, reaches_span, none_marked)
 
 -- ---- the fault of a cause
 
@@ -148,14 +98,10 @@ refused stop = option_and_then fault_of_cause stop
 
 -- tests of causes that are no fault
 calm : (b : Bool) (stop other : Option Cause) → refused stop ≡ None → refused other ≡ None → refused (cond b stop other) ≡ None
-calm true stop other e f = e
-calm false stop other e f = f
+calm b stop other h h2 = grind (arith)
 
 calm_mov : (i : ChipInsn) (x : Trace) → refused (stop_of_mov i x) ≡ None
 calm_mov i x = calm (dropped i x) (Some DropsBytes) None refl refl
-
-calm_lists : (loads stores : List ℕ) → refused (stop_of_lists loads stores) ≡ None
-calm_lists loads stores = calm (has_twice stores) (Some StoresTwice) _ refl (calm (share loads stores) (Some StoresSource) None refl refl)
 
 -- An instruction that stops for this cause, or for none, has this result: the cause's fault in each memory, and no other
 -- fault in a memory of 2^32 bytes without marks.
@@ -174,34 +120,22 @@ module _ (marks : MarkList) (s : State) where
   -- a test of the machine and of the run without memory
   if_fails : (b : Bool) (k : FaultKind) (stop : Option Cause) (y : ChanTurn × State) → Agrees marks s stop y
       → Agrees marks s (cond b (Some (Fails k)) stop) (cond b (faults k s) y)
-  if_fails true k stop y a = fails k
-  if_fails false k stop y a = a
+  if_fails b k stop y h = grind (arith)
 
   unless_fails : (b : Bool) (k : FaultKind) (stop : Option Cause) (y : ChanTurn × State) → Agrees marks s stop y
       → Agrees marks s (cond b stop (Some (Fails k))) (cond b y (faults k s))
-  unless_fails true k stop y a = a
-  unless_fails false k stop y a = fails k
+  unless_fails b k stop y h = grind (arith)
 
   -- a burst
-  by_tests : (past reached : Bool) (cause : Cause) (k : FaultKind) (stop : Option Cause) (y : ChanTurn × State)
-      → (past ≡ true → length s.image ≤ end_of_addresses → reached ≡ false) → (length s.image ≡ end_of_addresses → marks ≡ [] → reached ≡ not past)
-      → fault_of_cause cause ≡ Some k → refused stop ≡ None → fault_in y.0 ≡ None → Agrees marks s (cond past (Some cause) stop) (cond reached y (faults k s))
-  by_tests true reached cause k stop y fails_there whole is calm_stop moves = record {
-    everywhere = λ low kind e. ap (λ (b : Bool). cond b y (faults k s)) (fails_there refl low)
-        ∙ ap (λ (j : FaultKind). faults j s) (same_Some k kind (sym is ∙ e));
-    no_other = λ all unmarked. ap (λ (b : Bool). fault_in (cond b y (faults k s)).0) (whole all unmarked) ∙ sym is;
-  }
-  by_tests false reached cause k stop y fails_there whole is calm_stop moves = record {
-    everywhere = λ low kind e. absurd (none-some kind (sym calm_stop ∙ e));
-    no_other = λ all unmarked. ap (λ (b : Bool). fault_in (cond b y (faults k s)).0) (whole all unmarked) ∙ moves ∙ sym calm_stop;
-  }
+  by_tests : (past hit : Bool) (cause : Cause) (k : FaultKind) (stop : Option Cause) (y : ChanTurn × State)
+      → (past ≡ true → length s.image ≤ end_of_addresses → hit ≡ false) → (length s.image ≡ end_of_addresses → marks ≡ [] → hit ≡ not past)
+      → fault_of_cause cause ≡ Some k → refused stop ≡ None → fault_in y.0 ≡ None → Agrees marks s (cond past (Some cause) stop) (cond hit y (faults k s))
+  by_tests past hit cause k stop y h h2 h3 h4 h5 = grind (arith, same_Some, none-some)
 
   burst : (kind : MarkKind) (b : Burst) (cause : Cause) (k : FaultKind) (stop : Option Cause) (y : ChanTurn × State) → MovesSome b
       → fault_of_cause cause ≡ Some k → refused stop ≡ None → fault_in y.0 ≡ None
       → Agrees marks s (cond (passes b) (Some cause) stop) (cond (reaches kind marks (length s.image) (touched b)) y (faults k s))
-  burst kind b cause k stop y some is calm_stop moves =
-      by_tests (passes b) (reaches kind marks (length s.image) (touched b)) cause k stop y (past_fails kind marks (length s.image) b some)
-      (whole_reached kind marks (length s.image) b some) is calm_stop moves
+  burst kind b cause k stop y some is calm_stop moves = grind (arith, by_tests, past_fails, whole_reached)
 
 module _ (marks : MarkList) (x : Trace) (buffer image : List ℕ) (flags : List Bool) (holds : length buffer ≡ held x) where
   abbrev now : State
@@ -221,19 +155,13 @@ module _ (marks : MarkList) (x : Trace) (buffer image : List ℕ) (flags : List 
       let b = destination_of x.registers in
       burst marks now Writing b StoresPast DataWriteErr _ _ (moves_some x.registers.bus 14 x.registers.dar x.registers.ccr) refl
       (calm b.increments None (Some StoresFixed) refl refl) refl
-  agrees (Mov Ccr w) =
-      unless_fails marks now (accepts x.registers.bus w) OperandInvalid _ _ (none marks now (stop_of_mov (Mov Ccr w) x) _ (calm_mov (Mov Ccr w) x) refl)
+  agrees (Mov Ccr w) = grind (arith, unless_fails, none, calm_mov)
   agrees (Mov Dar v) = none marks now (stop_of_mov (Mov Dar v) x) _ (calm_mov (Mov Dar v) x) refl
-  agrees (AddHalfword Destination half negative) =
-      none marks now (stop_of_mov (AddHalfword Destination half negative) x) _ (calm_mov (AddHalfword Destination half negative) x) refl
-  agrees (LpEnd c back) =
-      if_fails marks now (nat_lt 0 (counter_of c x.registers) && nat_lt x.registers.pc back) InstrFetchErr None _ (none marks now None _ refl refl)
+  agrees (AddHalfword Destination half negative) = grind (arith, none, calm_mov)
+  agrees (LpEnd c back) = grind (arith, if_fails, none)
   agrees (LoopAgain c back) = if_fails marks now (nat_lt x.registers.pc back) InstrFetchErr None _ (none marks now None _ refl refl)
-  agrees End =
-      none marks now (stop_of_insn End x) (act marks End now) (calm (nat_lt 0 (held x)) (Some BytesLeft) _ refl (calm_lists x.loads (written_in x))) refl
-  agrees (Wfe n v) =
-      none marks now None (act marks (Wfe n v) now) refl
-      (cond_both (slice_index_or flags n false) _ _ (λ (y : ChanTurn × State). fault_in y.0 ≡ None) (λ set. refl) (λ clear. refl))
+  agrees End = grind (arith, none, calm)
+  agrees (Wfe n v) = grind (arith, none, cond_both)
   agrees i = none marks now None (act marks i now) refl refl
 
   agrees_fetched : (next : Result ChipInsn FaultKind) → Agrees marks now (stop_of next x) (exec_fetched marks next now)
@@ -244,32 +172,18 @@ module _ (marks : MarkList) (x : Trace) (buffer image : List ℕ) (flags : List 
 agrees_beside : (start : Registers) (program : List ℕ) (n : ℕ) (c : ChannelValue) (marks : MarkList) (image : List ℕ) (flags : List Bool)
     → Beside start program n c → let x = traced start program n in
     Agrees marks (state_of c image flags) (stop_of (next_in program x) x) (step_of marks c image flags)
-agrees_beside start program n c marks image flags b =
-    let x = traced start program n in
-    let next = next_in program x in
-    let at_trace = agrees_fetched marks x c.buffer image flags b.holds next in
-    let at_channel = subst (λ (r : Registers). let s = state r c.buffer image flags in Agrees marks s (stop_of next x) (exec_fetched marks next s))
-    (sym b.registers) at_trace in
-    subst (λ (r : Result ChipInsn FaultKind). Agrees marks (state_of c image flags) (stop_of next x) (exec_fetched marks r (state_of c image flags)))
-    (sym (ahead_beside start program n c b)) at_channel
+agrees_beside start program n c marks image flags b = grind (arith, agrees_fetched, ahead_beside)
 
--- a refusal for a fault is one at an instruction
+-- a refusal for a fault is one at an instruction, and comes before the limit
 stop_there : (start : Registers) (program : List ℕ) (most steps : ℕ) (cause : Cause) (kind : FaultKind) → StopsAt start program most steps cause
-    → fault_of_cause cause ≡ Some kind → let x = traced start program steps in refused (stop_of (next_in program x) x) ≡ Some kind
-stop_there start program most steps cause kind (inl stop) is = ap refused stop.1 ∙ is
-stop_there start program most steps cause kind (inr none) is = absurd (none-some kind (sym (ap fault_of_cause none.1) ∙ is))
-
--- and comes before the limit
-refused_early : (start : Registers) (program : List ℕ) (most steps : ℕ) (cause : Cause) (kind : FaultKind) → StopsAt start program most steps cause
-    → fault_of_cause cause ≡ Some kind → steps < most
-refused_early start program most steps cause kind (inl stop) is = stop.0
-refused_early start program most steps cause kind (inr none) is = absurd (let bad = sym (ap fault_of_cause none.1) ∙ is in cc)
+    → fault_of_cause cause ≡ Some kind → let x = traced start program steps in (steps < most) × (refused (stop_of (next_in program x) x) ≡ Some kind)
+stop_there start program most steps cause kind h h2 = grind (arith, none-some, none)
 
 pub refusals_fault : RefusalsAreFaults
 refusals_fault start program most u marks channel image flags h g ms memory fs kind low is =
     let c = channel u.steps in
     let b = beside start program u.steps marks channel image flags h.goes g u.steps (omega arith) in
-    (agrees_beside start program u.steps c ms memory fs b).everywhere low kind (stop_there start program most u.steps u.cause kind h.stops is)
+    (agrees_beside start program u.steps c ms memory fs b).everywhere low kind (stop_there start program most u.steps u.cause kind h.stops is).1
 
 pub faults_refused : FaultsAreRefusals
 faults_refused start program n marks channel image flags goes g memory fs all =
@@ -282,8 +196,7 @@ never_ends : (marks : MarkList) (i : ChipInsn) (s : State) → i ≢ End → (ac
 never_ends marks i s other = grind arith
 
 goes_never_ends : (marks : MarkList) (next : Result ChipInsn FaultKind) (s : State) → next ≢ Ok End → (exec_fetched marks next s).0 ≢ Ended
-goes_never_ends marks (Ok i) s other = never_ends marks i s (λ e. other (ap (λ (j : ChipInsn). Ok j) e))
-goes_never_ends marks (Err kind) s other = λ e. cc
+goes_never_ends marks next s h = grind (arith, never_ends)
 
 module _ (start : Registers) (program : List ℕ) (most : ℕ) (u : Unexplained) (kind : FaultKind) (h : Refuses start program most u)
     (is : fault_of_cause u.cause ≡ Some kind) where
@@ -306,15 +219,14 @@ module _ (start : Registers) (program : List ℕ) (most : ℕ) (u : Unexplained)
     fails_there at =
         let beside_it = subst (λ (k : ℕ). Beside start program k m.channel) at b.beside in
         let agrees = agrees_beside start program u.steps m.channel marks m.image m.flags beside_it in
-        ap (λ (y : ChanTurn × State). y.0) (agrees.everywhere low kind (stop_there start program most u.steps u.cause kind h.stops is))
+        ap (λ (y : ChanTurn × State). y.0) (agrees.everywhere low kind (stop_there start program most u.steps u.cause kind h.stops is).1)
 
     -- one before it
     moves_before : m.channel.taken < u.steps → answer_at marks m ≡ Moved → Before (after_step marks m).channel
     moves_before less moves =
         let c = m.channel in
         let k = c.taken in
-        let counted : (after_step marks m).channel.taken ≡ suc k =
-        moved_count (answer_at marks m) (step_of marks c m.image m.flags).1 (stored_by (ahead_of c) c.registers) c moves ∙ omega arith in
+        let counted : (after_step marks m).channel.taken ≡ suc k = grind (arith, moved_count) in
         let after = moved_by start program k marks c m.image m.flags _ b.beside (few_at start program k (λ j l. h.goes j (omega arith))) refl (h.goes k less)
         moves in
         record {
@@ -324,29 +236,13 @@ module _ (start : Registers) (program : List ℕ) (most : ℕ) (u : Unexplained)
         }
 
     goes_before : m.channel.taken < u.steps → answer_at marks m ≢ Ended
-    goes_before less over =
-        let k = m.channel.taken in
-        let next = next_in program (traced start program k) in
-        goes_never_ends marks next (state_of m.channel m.image m.flags) (h.goes k less).0
-        (ap (λ (r : Result ChipInsn FaultKind). (exec_fetched marks r (state_of m.channel m.image m.flags)).0)
-        (sym (ahead_beside start program k m.channel b.beside)) ∙ over)
+    goes_before less over = grind (arith, goes_never_ends, ahead_beside)
 
     leads_before : m.channel.taken < u.steps → (turn : ChanTurn) → answer_at marks m ≡ turn → Leads turn (after_step marks m).channel
-    leads_before less Moved e = moves_before less e
-    leads_before less Ended e = absurd (goes_before less e)
-    leads_before less (Waiting k) e = subst (λ (n : Machine). Leads (Waiting k) n.channel) (sym (is_still marks m (subst ChangesNothing (sym e) tt))) (b, less)
-    leads_before less (Fault k) e =
-        subst (λ (n : Machine). Leads (Fault k) n.channel) (sym (is_still marks m (subst ChangesNothing (sym e) tt)))
-        (b, λ at. absurd (omega (arith, less, at)))
+    leads_before h turn h2 = grind (arith, moves_before, goes_before, is_still)
 
     pub step_leads : Leads (answer_at marks m) (after_step marks m).channel
-    step_leads = elim (cases_lt m.channel.taken u.steps) [
-      | inl less ↦ leads_before less (answer_at marks m) refl
-      | inr all ↦
-          let fails = fails_there (let few = b.few in omega (arith, all, few)) in
-          subst (λ (t : ChanTurn). Leads t (after_step marks m).channel) (sym fails)
-          (subst (λ (n : Machine). Leads (Fault kind) n.channel) (sym (is_still marks m (subst ChangesNothing (sym fails) tt))) (b, λ at. refl))
-    ]
+    step_leads = grind (arith, cases_lt, leads_before, fails_there, is_still)
 
   -- ---- a call
 
@@ -375,7 +271,7 @@ module _ (start : Registers) (program : List ℕ) (most : ℕ) (u : Unexplained)
         | inl over ↦ absurd (true≢false over)
         | inr full ↦
             let same : v.channel.taken ≡ s.channel.taken = ap (λ (m : Machine). m.channel.taken) x.ends_at in
-            absurd (omega (arith, full, same, limit, b.few, refused_early start program most u.steps u.cause kind h.stops is))
+            absurd (omega (arith, full, same, limit, b.few, (stop_there start program most u.steps u.cause kind h.stops is).0))
       ]
     ]
     call_leads v limit_of (suc p) last some x =
@@ -416,11 +312,7 @@ module _ (start : Registers) (program : List ℕ) (most : ℕ) (u : Unexplained)
         → s.channel.taken ≡ u.steps → (last ≡ Some (Fault kind)) × (v ≡ s)
     call_fails_there v limit_of zero last some x at =
         absurd (subst (λ (o : Option ChanTurn). LastLeads o v.channel) x.answer (call_leads v limit_of zero last some x))
-    call_fails_there v limit_of (suc zero) last some x at =
-        let fails = fails_there marks s low b at in (
-          x.answer ∙ ap (λ (turn : ChanTurn). Some turn) fails,
-          x.ends_at ∙ is_still marks s (subst ChangesNothing (sym fails) tt),
-        )
+    call_fails_there v limit_of (suc zero) last some x at = grind (arith, fails_there, is_still)
     call_fails_there v limit_of (suc (suc p)) last some x at =
         let fails = fails_there marks s low b at in
         let moved = was_moved (ahead_of s.channel) (answer_at marks s) (went_before marks s 1 (steps_move x 1 (omega arith))) in

@@ -2,7 +2,7 @@
 use Rattle.std.proofs.Common.{◌≡◌, ℕ, ◌≤◌, ◌||◌, List, [], ◌∷◌, ◌++◌, Bool, true, false, refl, ◌∙◌, arith, inl, inr}
 use Rattle.std.specs.{List.Contains, List.list_any, Prelude.IsTrue}
 use Rattle.std.proofs.{lemmas.List.Elements.Contains-append_left, lemmas.List.Elements.Contains-append_right, lemmas.Bool.or_from}
-use Rattle.dma_mem.specs.Regions.{Piece, end_of, has, rises_from, gaps_above, gaps_of, in_order, pieces_of, read_only_of}
+use Rattle.dma_mem.specs.Regions.{Piece, end_of, has, rises_from, gaps_above, in_order, pieces_of, read_only_of}
 use Rattle.dma_mem.specs.{declared.segment.Segment.Segment, Marking.MarkList, Marking.is_marked, Places.destinations}
 use Rattle.dma_mem.specs.{declared.marks.MarkKind.TheVariants.Reading, declared.marks.MarkKind.TheVariants.Writing, Lent.lies_in_any, Lent.stores_at}
 use Rattle.dma_mem.specs.{declared.regions.Region.Region}
@@ -46,14 +46,10 @@ module _ (regions : List Region) (marks : MarkList) (work : Work) (order : IsTru
   others = stores_at read_only ++ marks
 
   loads : (a : ℕ) → Uses work a → is_marked Reading marks a ≡ false → is_marked Reading (with_gaps_of regions marks) a ≡ false
-  loads a uses misses =
-      is_marked_at Reading (gaps_of pieces) others a
-      ∙ or_from _ _ (in_no_gap 0 pieces a order (have.touched a uses)) (loads_in read_only marks a ∙ misses)
+  loads a uses misses = grind (arith, is_marked_at, or_from, in_no_gap, loads_in)
 
   stores : (a : ℕ) → Uses work a → Contains (written work) a → is_marked Writing marks a ≡ false → is_marked Writing (with_gaps_of regions marks) a ≡ false
-  stores a uses i misses =
-      is_marked_at Writing (gaps_of pieces) others a
-      ∙ or_from _ _ (in_no_gap 0 pieces a order (have.touched a uses)) (stores_in read_only marks a ∙ or_from _ _ (have.writable a i) misses)
+  stores a uses i misses = grind (arith, is_marked_at, or_from, in_no_gap, stores_in)
 
 pub gaps_miss : GapsMiss
 gaps_miss regions marks work order have misses =

@@ -5,7 +5,7 @@ use Rattle.std.specs.{Prelude.IsSome, List.Contains, List.range_with_len}
 use Rattle.std.proofs.lemmas.List.{get_or-take, length-take, take_all, take_at}
 use Rattle.std.proofs.{lemmas.Bool.cases_Bool, lemmas.Bool.cases_eq, lemmas.List.Elements.Contains-get_or, lemmas.List.FromFn.get_or-map-range_with_len}
 use Rattle.std.proofs.{lemmas.List.FromFn.length-map-range_with_len}
-use Rattle.dma_mem.specs.{declared.segment.Segment.Segment, Places.destinations, Places.size_of, Places.sources, Image.laid}
+use Rattle.dma_mem.specs.{declared.segment.Segment.Segment, Places.destinations, Image.laid}
 use Rattle.dma_chan.specs.{declared.exec.Registers.Registers, declared.turn.ChanTurn.ChanTurn, declared.turn.ChanTurn.TheVariants.Ended, Channel.ChannelValue}
 use Rattle.dma_chan.specs.{Stepping.Machine, Written.LiesIn, Others.Touches}
 use Rattle.dma_explain.specs.Explains.{DoneGrows, Executes, Explains, IsLoadedWith, IsReached, IsWork, Work, all_of, amounts_of, cleared, traced}
@@ -13,7 +13,7 @@ use Rattle.dma_explain.specs.Changes.{System, Call, Change, Sets, Calls, Guest, 
 use Rattle.dma_explain.specs.Changes.{LeavesAlone, HasFirst, HasCopied, CopiesSinceLoad, bytes_in, Holds, Gives, HaveWorks, WritesElsewhere, IsApart}
 use Rattle.dma_explain.specs.Changes.{ChannelsCopy}
 use Rattle.dma_explain.specs.{declared.explain.Amounts.Amounts, Works.IsWorked, Works.Uses}
-use Rattle.dma_explain.proofs.AmongOthers.{Fits, amounts, is_in}
+use Rattle.dma_explain.proofs.AmongOthers.{Fits, is_in}
 use Rattle.dma_explain.proofs.CallsAmongOthers.{done_at, Leads, Runs, at_first, call, call_fails, call_waits, either_way, not_none, signalled, survived}
 use Rattle.dma_explain.proofs.{CallStays.call_stays_in, CallStays.inside, LaidPlaces.laid_copied, LaidPlaces.laid_kept, Traced.copy_of, Traced.grows_to}
 use Rattle.dma_chan.proofs.CallWrites.{call_writes_no_other}
@@ -23,16 +23,7 @@ use Rattle.dma_chan.proofs.CallWrites.{call_writes_no_other}
 -- the same of memories that agree at what the work uses
 pub first_agrees : (work : Work) (done : Amounts) (f g first memory : ℕ → ℕ) → IsWork work → ((a : ℕ) → Uses work a → first a ≡ f a)
     → ((a : ℕ) → Uses work a → memory a ≡ g a) → HasFirst work done f g → HasFirst work done first memory
-first_agrees work done f g first memory h same left w =
-    let t = work.copy in
-    record {
-      copied = λ p low within.
-          left (get_or (destinations t) p 0) (inl (inr (Contains-get_or (destinations t) p 0 within)))
-          ∙ w.copied p low within
-          ∙ sym (same (get_or (sources t) p 0) (inl (inl (Contains-get_or (sources t) p 0 (omega (arith, h.same_length, within))))));
-      zeros = λ p low within. left (get_or (cleared work) p 0) (inr (Contains-get_or (cleared work) p 0 within)) ∙ w.zeros p low within;
-      kept = λ a uses off still. left a uses ∙ w.kept a uses off still ∙ sym (same a uses);
-    }
+first_agrees work done f g first memory h same left w = grind (arith, Contains-get_or)
 
 -- a part of a work is done in an image
 pub record IsPart (work : Work) (first : List ℕ) (done : Amounts) (image : List ℕ) : Type 0 where
@@ -79,20 +70,11 @@ cleared_within start program work n done h r =
 
 -- so is all of it, once it is done
 pub worked_part : (work : Work) (first image : List ℕ) → IsWorked work first image → IsPart work first (all_of work) image
-worked_part work first image h =
-    let zs = cleared work in
-    let zeros : take (length zs) zs ≡ zs = take_all (length zs) zs (omega arith) in
-    record {
-      same = h.copied;
-      zeros = λ a i. h.zeros a (subst (λ (xs : List ℕ). Contains xs a) zeros i);
-      rest = λ a i off. absurd (off (subst (λ (xs : List ℕ). Contains xs a) (sym zeros) i));
-    }
+worked_part work first image h = grind (arith, take_all)
 
 -- all is done behind the n instructions
 pub all_done : (start : Registers) (program : List ℕ) (work : Work) (n : ℕ) → Explains start program work n → amounts_of (traced start program n) ≡ all_of work
-all_done start program work n h =
-    ap (λ (xs : List ℕ). amounts (length xs) (length (traced start program n).zeros)) h.stores
-    ∙ ap (λ (xs : List ℕ). amounts (size_of work.copy) (length xs)) h.zeros
+all_done start program work n h = grind arith
 
 module _ (start : Registers) (program : List ℕ) (work : Work) (n : ℕ) (first : List ℕ) (h : Explains start program work n) where
   -- what a machine's channel has done, and its image
@@ -103,11 +85,7 @@ module _ (start : Registers) (program : List ℕ) (work : Work) (n : ℕ) (first
 
   so_far : (v : Machine) (done : Amounts) → done_at start program v ≡ done → v.channel.stored ≡ done.copied + done.cleared → IsReached start program n done
       → IsPart work first done v.image → IsSoFar v
-  so_far v done e count reached part = record {
-    count = subst (λ (d : Amounts). v.channel.stored ≡ d.copied + d.cleared) (sym e) count;
-    reached = subst (IsReached start program n) (sym e) reached;
-    part = subst (λ (d : Amounts). IsPart work first d v.image) (sym e) part;
-  }
+  so_far v done e count reached part = grind arith
 
   pub runs_so : (v : Machine) → Runs start program work n first v → IsSoFar v
   runs_so v r =
@@ -191,8 +169,7 @@ module _ (start : Registers) (program : List ℕ) (work : Work) (n : ℕ) (size 
     found c s v takes lent (inl r) =
         survived start program work n first (at_channel s c.channel) c.found r takes.finds_channel
         (λ a touches. takes.finds a (lent a touches) ∙ sym (shows s.memory a touches)) (λ a touches. takes.within a (lent a touches))
-    found c s v takes lent (inr none) =
-        absurd (not_none c.found.channel.program takes.does.is_loaded (ap (λ (d : ChannelValue). d.program) takes.finds_channel ∙ none))
+    found c s v takes lent (inr none) = grind (arith, not_none)
 
     -- after the call
     left : (c : Call) (s v : System) → TakesCall c s v → LendsAll work c → Runs start program work n first c.left ⊎ (c.left.channel.program ≡ None)
@@ -288,13 +265,11 @@ abbrev Copies : Work → ChannelValue → Type 0
 Copies work c = (start : Registers) × (program : List ℕ) × (n : ℕ) × Explains start program work n × Executes start program n c
 
 executes : (work : Work) (c : ChannelValue) → IsSome c.program → Holds (Some work) c → Copies work c
-executes work c some (inl none) = absurd (not_none c.program some none)
-executes work c some (inr w) = w
+executes work c h h2 = grind (arith, not_none)
 
 still : (start : Registers) (program : List ℕ) (work : Work) (n : ℕ) (c : ChannelValue) → Explains start program work n → Executes start program n c
     ⊎ (c.program ≡ None) → Holds (Some work) c
-still start program work n c h (inl w) = inr (start, program, n, h, w)
-still start program work n c h (inr none) = inl none
+still start program work n c h h2 = grind (arith)
 
 module _ (c : Call) (s v : System) (takes : TakesCall c s v) where
   -- before the call the channel executes its transfer
@@ -330,18 +305,7 @@ same_held o p c d e f h = subst (λ (x : Option Work). Holds x d) (sym e) (subst
 
 one : (change : Change) (before after : ℕ → Option Work) (s v : System) → MakesChange change s v → Gives change before after
     → ((ch : ℕ) → Holds (before ch) (s.channels ch)) → (ch : ℕ) → Holds (after ch) (v.channels ch)
-one (Sets d c) before after s v does gives holds ch = elim (cases_eq ch d) [
-  | inl e ↦ subst (λ (k : ℕ). Holds (after k) (v.channels k)) (sym e) (subst (Holds (after d)) (sym does.0) gives.0)
-  | inr ne ↦ same_held (before ch) (after ch) (s.channels ch) (v.channels ch) (gives.1 ch ne) (does.1.0 ch ne) (holds ch)
-]
-one Guest before after s v does gives holds ch = same_held (before ch) (after ch) (s.channels ch) (v.channels ch) (gives ch) (does ch) (holds ch)
-one (Calls c) before after s v takes gives holds ch = elim (cases_eq ch c.channel) [
-  | inl e ↦
-      let d = c.channel in
-      let held : Holds (before d) (v.channels d) = holds_on c s v takes (before d) (holds d) in
-      subst (λ (k : ℕ). Holds (after k) (v.channels k)) (sym e) (same_held (before d) (after d) (v.channels d) (v.channels d) (gives d) refl held)
-  | inr ne ↦ same_held (before ch) (after ch) (s.channels ch) (v.channels ch) (gives ch) (takes.others ch ne) (holds ch)
-]
+one change before after s v h h2 h3 ch = grind (arith, cases_eq, same_held, holds_on)
 
 apart_alone : (work : Work) (ch : ℕ) (own : ℕ → Option Work) (change : Change) (s v : System) → MakesChange change s v
     → ((d : ℕ) → Holds (own d) (s.channels d)) → IsApart work ch own change s v → LeavesAlone work ch change s v

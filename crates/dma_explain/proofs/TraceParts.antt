@@ -1,4 +1,5 @@
 -- Traces and amounts with the same parts are the same.
+use Rattle.std.proofs.Common.{arith}
 use Rattle.std.proofs.Common.{◌≡◌, ℕ, List, ap, ◌∙◌}
 use Rattle.dma_mem.specs.declared.segment.Segment.{Segment}
 use Rattle.dma_chan.specs.declared.exec.Registers.{Registers}
@@ -8,11 +9,7 @@ abbrev pub parts : Registers → List ℕ → List ℕ → List ℕ → Trace
 parts r loads stores zeros = record { registers = r; loads = loads; stores = stores; zeros = zeros }
 
 pub same_parts : {r q : Registers} {ls ms ss ts zs ws : List ℕ} → r ≡ q → ls ≡ ms → ss ≡ ts → zs ≡ ws → parts r ls ss zs ≡ parts q ms ts ws
-same_parts {r} {q} {ls} {ms} {ss} {ts} {zs} {ws} registers loads stores zeros =
-    ap (λ (x : Registers). parts x ls ss zs) registers
-    ∙ ap (λ (xs : List ℕ). parts q xs ss zs) loads
-    ∙ ap (λ (xs : List ℕ). parts q ms xs zs) stores
-    ∙ ap (λ (xs : List ℕ). parts q ms ts xs) zeros
+same_parts {r} {q} {ls} {ms} {ss} {ts} {zs} {ws} registers loads stores zeros = grind arith
 
 abbrev pub amounts : ℕ → ℕ → Amounts
 amounts copied cleared = record { copied = copied; cleared = cleared }
@@ -24,7 +21,4 @@ abbrev pub lists : List Repeated → List Segment → List Segment → Items
 lists reads writes zeros = record { reads = reads; writes = writes; zeros = zeros }
 
 pub same_lists : {rs qs : List Repeated} {ss ts zs ws : List Segment} → rs ≡ qs → ss ≡ ts → zs ≡ ws → lists rs ss zs ≡ lists qs ts ws
-same_lists {rs} {qs} {ss} {ts} {zs} {ws} reads writes zeros =
-    ap (λ (xs : List Repeated). lists xs ss zs) reads
-    ∙ ap (λ (xs : List Segment). lists qs xs zs) writes
-    ∙ ap (λ (xs : List Segment). lists qs ts xs) zeros
+same_lists {rs} {qs} {ss} {ts} {zs} {ws} reads writes zeros = grind arith

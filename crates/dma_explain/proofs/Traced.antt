@@ -1,6 +1,6 @@
 -- A run without memory, and one instruction of the machine beside it.
 use Rattle.std.proofs.Common.{◌≡◌, ℕ, zero, suc, ◌+◌, ◌-◌, ◌≤◌, ◌<◌, Bool, true, false, ltb, List, [], ◌++◌, length, get_or, take, drop, refl, sym, ap, ◌∙◌}
-use Rattle.std.proofs.Common.{subst, arith, append_assoc, append-nil, length-append, inl, inr, Result, Ok, Err}
+use Rattle.std.proofs.Common.{subst, arith, append_assoc, append-nil, length-append, inl, inr, Result}
 use Rattle.std.specs.Prelude.{Option, Some, ◌≢◌, ◌⊎◌, replicate, nat_eq, slice_index, slice_index_or, slice_set, unwrap_or}
 use Rattle.std.specs.{List.Contains, List.list_any, List.range_with_len, List.zip, Map.keys_of, Map.lookup}
 use Rattle.std.proofs.lemmas.Bool.{cases_Bool, cond_both, eq-eqb, eqb-true, le-ltb, cases_lt, true≢false}
@@ -77,26 +77,16 @@ grows_insn StoreZeros x = record {
 grows_insn i x = grows_none x (after_insn i x) refl refl refl
 
 grows_fetch : (r : Result ChipInsn FaultKind) (x : Trace) → Grows x (after_fetch r x)
-grows_fetch (Ok i) x = grows_insn i x
-grows_fetch (Err kind) x = grows_none x x refl refl refl
+grows_fetch r x = grind (arith, grows_insn, grows_none)
 
 pub grows_on : (x y z : Trace) → Grows x y → Grows y z → Grows x z
-grows_on x y z f g = record {
-  more_loads = f.more_loads ++ g.more_loads;
-  more_stores = f.more_stores ++ g.more_stores;
-  more_zeros = f.more_zeros ++ g.more_zeros;
-  loads = g.loads ∙ ap (λ (xs : List ℕ). xs ++ g.more_loads) f.loads ∙ append_assoc x.loads f.more_loads g.more_loads;
-  stores = g.stores ∙ ap (λ (xs : List ℕ). xs ++ g.more_stores) f.stores ∙ append_assoc x.stores f.more_stores g.more_stores;
-  zeros = g.zeros ∙ ap (λ (xs : List ℕ). xs ++ g.more_zeros) f.zeros ∙ append_assoc x.zeros f.more_zeros g.more_zeros;
-}
+grows_on x y z f g = grind (arith, append_assoc)
 
 grows_same : (x y : Trace) → y ≡ x → Grows x y
 grows_same x y e = grows_none x y (ap (λ (z : Trace). z.loads) e) (ap (λ (z : Trace). z.stores) e) (ap (λ (z : Trace). z.zeros) e)
 
 pub grows_to : (start : Registers) (program : List ℕ) (k m : ℕ) → k ≤ m → Grows (traced start program k) (traced start program m)
-grows_to start program k zero l =
-    let e : k ≡ zero = omega arith in
-    grows_same (traced start program k) (traced start program zero) (ap (traced start program) (sym e))
+grows_to start program k zero l = grind (arith, grows_same)
 grows_to start program k (suc m) l =
     elim (cases_lt m k) [
       | inl last ↦
@@ -121,8 +111,7 @@ laid_more first t k n copy =
     let ss = sources t in
     let zs = zip ds ss in
     let more = take n (drop k zs) in
-    let same : carried first more ≡ zip (take n (drop k ds)) (read_at first (take n (drop k ss))) =
-    ap (carried first) (ap (take n) (drop_zip k ds ss) ∙ take_zip n (drop k ds) (drop k ss)) ∙ carried_zip first (take n (drop k ds)) (take n (drop k ss)) in
+    let same : carried first more ≡ zip (take n (drop k ds)) (read_at first (take n (drop k ss))) = grind (arith, drop_zip, take_zip, carried_zip) in
     let apart : Apart (keys_of more) (keys_of (take k zs)) =
     λ a i j. once_parts ds k n copy.once a (keys_in n (drop k ds) (drop k ss) a (rw drop_zip at i)) (keys_in k ds ss a j) in
     let all = after_moves_more first (take k zs) more [] apart in
@@ -181,8 +170,7 @@ put_zeros image b a up low i =
     let zeros : List ℕ = replicate n 0 in
     let k = a - b.addr in
     let less : k < n = omega arith in
-    let found : lookup (nat_eq a) (bytes_at b.addr zeros) ≡ Some (get_or zeros k 0) =
-    lookup_bytes_at b.addr zeros k a (omega (arith, less, length-replicate {A = ℕ} n 0)) (omega (arith, within.0)) in
+    let found : lookup (nat_eq a) (bytes_at b.addr zeros) ≡ Some (get_or zeros k 0) = grind (arith, lookup_bytes_at, length-replicate) in
     ap (λ (m : ℕ). get_or (put image (bytes_at b.addr (replicate m 0))) a 0) span
     ∙ get_or_put image (bytes_at b.addr zeros) a low
     ∙ ap (λ (o : Option ℕ). unwrap_or o (get_or image a 0)) found
@@ -229,8 +217,7 @@ module _ (work : Work) (first : List ℕ) (marks : MarkList) (whole : IsWork wor
   copy = copy_of work whole
 
   held : length buffer ≡ length x.loads - length x.stores
-  held = ap length m.buffer_is ∙ length-drop (length x.stores) (read_at first x.loads)
-      ∙ ap (λ (n : ℕ). n - length x.stores) (length-map x.loads (slice_index first))
+  held = grind (arith, length-drop, length-map)
 
   -- an instruction that moves no byte
   quiet : (i : ChipInsn) (r : Registers) (new : List Bool) → Answers work first marks i (record x { registers = r }) (Moved, state r buffer image new)

@@ -1,7 +1,7 @@
 -- The bursts of a run without memory, as its tracer keeps them.
-use Rattle.std.proofs.Common.{◌≡◌, ℕ, zero, suc, ◌+◌, ◌-◌, ◌*◌, ◌≤◌, ◌<◌, Bool, true, false, cond, List, ◌++◌, length, Some, None, Result, Ok, Err, refl, sym}
-use Rattle.std.proofs.Common.{Global, Vec, ap, ◌∙◌, subst, arith, append-nil, length-append, inl, inr, OnOk}
-use Rattle.std.specs.{Prelude.is_err, Prelude.nat_lt, Prelude.replicate, List.flat_map, List.range_with_len}
+use Rattle.std.proofs.Common.{◌≡◌, ℕ, zero, suc, ◌+◌, ◌-◌, ◌*◌, ◌≤◌, ◌<◌, Bool, true, false, cond, List, ◌++◌, length, Some, None, Result, refl, sym}
+use Rattle.std.proofs.Common.{Global, Vec, ap, ◌∙◌, subst, arith, append-nil, length-append, OnOk}
+use Rattle.std.specs.{Prelude.is_err, Prelude.nat_lt, Prelude.replicate, List.flat_map}
 use Rattle.std.proofs.{lemmas.List.FromFn.length-range_with_len, lemmas.Bool.cases_Bool, lemmas.Bool.le-ltb, lemmas.Bool.ltb-false, lemmas.Nat.mul-le}
 use Rattle.dma_insn.specs.declared.chip.ChipInsn.TheVariants.{Ld, St, StoreZeros}
 use Rattle.dma_mem.specs.{declared.segment.Segment.Segment, Places.end_of_addresses, Places.places, Places.range_of}
@@ -19,10 +19,7 @@ use Rattle.dma_explain.proofs.{LowestPlaces.reads, LowestPlaces.rounds_read, Tra
 
 -- a burst touches some address
 span_some : (b : Burst) → MovesSome b → 0 < span_of b
-span_some b some = elim (cases_Bool b.increments) [
-  | inl up ↦ rw up (omega (arith, some, mul-le 1 b.size b.beats b.size (omega (arith, some)) (omega arith)))
-  | inr fixed ↦ rw fixed (omega (arith, some))
-]
+span_some b some = grind (arith, cases_Bool, mul-le)
 
 -- its range
 pub run_is : (b : Burst) → MovesSome b → passes b ≡ false → IsRun (run_of b)
@@ -33,9 +30,7 @@ span_run b s at long = ap (λ (a : ℕ). record s { addr = a }) at ∙ ap (λ (n
 
 -- what it reads
 pub read_is : (b : Burst) → MovesSome b → passes b ≡ false → IsRead (read_of b)
-read_is b some low =
-    let times : 0 < (read_of b).times = elim (cases_Bool b.increments) [ inl up ↦ rw up (omega arith) | inr fixed ↦ rw fixed (omega (arith, some)) ] in
-    (times, run_is b some low)
+read_is b some low = grind (arith, cases_Bool, run_is)
 
 read_touched : (b : Burst) → reads (read_of b) ≡ touched b
 read_touched b = rounds_read (rounds_of b) (run_of b) ∙ sym (touched_rounds b)
@@ -46,20 +41,11 @@ fixed_length (suc k) xs = omega (arith, length-append xs (flat_map (λ ys. ys) (
 
 -- a burst touches as many addresses as it has bytes, each beat of a fixed one the same
 pub length_touched : (b : Burst) → MovesSome b → length (touched b) ≡ burst_len b
-length_touched b some = elim (cases_Bool b.increments) [
-  | inl up ↦ length_up b up
-  | inr fixed ↦
-      let again : touched b ≡ flat_map (λ xs. xs) (replicate b.beats (range_with_len b.addr b.size)) = rw fixed refl in
-      ap length again ∙ fixed_length b.beats (range_with_len b.addr b.size) ∙ ap (λ (n : ℕ). b.beats * n) (length-range_with_len b.addr b.size)
-      ∙ omega (arith, some.fixed fixed)
-]
+length_touched b some = grind (arith, cases_Bool, length_up, fixed_length, length-range_with_len)
 
 -- the range of a burst that rises
 pub touched_span : (b : Burst) (s : Segment) → b.increments ≡ true → s.addr ≡ b.addr → s.len ≡ span_of b → range_of s ≡ touched b
-touched_span b s up at long =
-    let len : span_of b ≡ burst_len b = rw up refl in
-    let rising : range_with_len b.addr (burst_len b) ≡ touched b = rw up refl in
-    ap (λ (a : ℕ). range_with_len a s.len) at ∙ ap (range_with_len b.addr) (long ∙ len) ∙ rising
+touched_span b s up at long = grind arith
 
 module _ (x : Tracer) (b : Burst) (h : IsTracer x) (some : MovesSome b) where
   abbrev z : Trace
@@ -73,8 +59,7 @@ module _ (x : Tracer) (b : Burst) (h : IsTracer x) (some : MovesSome b) where
       let read : places (unrolled src.items) ≡ z.loads ++ touched b = ap (λ rs. places (unrolled rs)) pushed ∙ all.1
       ∙ ap (λ (xs : List ℕ). z.loads ++ xs) (read_touched b) in
       let lists = ap (λ (rs : List Repeated). record (lists_of x) { reads = rs }) pushed in
-      let grown : length z.loads + burst_len b ≡ length (places (unrolled src.items)) =
-      omega (arith, ap length read, length-append z.loads (touched b), length_touched b some) in
+      let grown : length z.loads + burst_len b ≡ length (places (unrolled src.items)) = grind (arith, length-append, length_touched) in
       record {
         tracer = record {
           few = omega (arith, h.few, grown);
@@ -100,8 +85,7 @@ module _ (x : Tracer) (b : Burst) (h : IsTracer x) (some : MovesSome b) where
       ∙ ap (λ (xs : List ℕ). z.stores ++ xs) (touched_span b (run_of b) up refl refl) in
       let lists = ap (λ (ws : List Segment). record (lists_of x) { writes = ws }) pushed in
       let copied = ap (λ (a : Amounts). a.copied) h.done in
-      let grown : x.done.copied + burst_len b ≡ length (places dst.items) =
-      omega (arith, copied, ap length put, length-append z.stores (touched b), length_up b up) in
+      let grown : x.done.copied + burst_len b ≡ length (places dst.items) = grind (arith, length-append, length_up) in
       record {
         tracer = record {
           few = omega (arith, h.few, h.held, has, grown, copied);
@@ -125,8 +109,7 @@ module _ (x : Tracer) (b : Burst) (h : IsTracer x) (some : MovesSome b) where
       let put : places zeros.items ≡ z.zeros ++ touched b = ap places pushed ∙ all.1
       ∙ ap (λ (xs : List ℕ). z.zeros ++ xs) (touched_span b (run_of b) up refl refl) in
       let lists = ap (λ (ws : List Segment). record (lists_of x) { zeros = ws }) pushed in
-      let grown : x.done.cleared + burst_len b ≡ length (places zeros.items) =
-      omega (arith, ap (λ (a : Amounts). a.cleared) h.done, ap length put, length-append z.zeros (touched b), length_up b up) in
+      let grown : x.done.cleared + burst_len b ≡ length (places zeros.items) = grind (arith, length-append, length_up) in
       record {
         tracer = record {
           few = h.few;
@@ -144,8 +127,7 @@ module _ (x : Tracer) (b : Burst) (h : IsTracer x) (some : MovesSome b) where
 -- ---- what a tracer's instructions know
 
 pub at_ok : {X E : Type 0} (r : Result X E) (P : Type 0) → false ≡ is_err r → OnOk r P → P
-at_ok (Ok x) P e h = h
-at_ok (Err x) P e h = absurd (cc)
+at_ok r P h h2 = grind (arith)
 
 -- whether a burst ends above the last address, by its range
 pub passes_span : (b : Burst) (s : Segment) → s.addr ≡ b.addr → s.len ≡ span_of b → nat_lt end_of_addresses (s.addr + s.len) ≡ passes b
@@ -157,8 +139,7 @@ loaded_registers r b n is e = ap (λ (k : ℕ). record r { pc = r.pc + 1; sar = 
 
 pub stored_registers : (r : Registers) (b : Burst) (n : ℕ) → b ≡ destination_of r → b.increments ≡ true → n ≡ burst_len b
     → record r { pc = r.pc + 1; dar = wrapped (r.dar + n) } ≡ moved St r
-stored_registers r b n is up e =
-    ap (λ (k : ℕ). record r { pc = r.pc + 1; dar = wrapped (r.dar + k) }) (e ∙ sym (advance_up b (burst_len b) up refl) ∙ ap advance is)
+stored_registers r b n is up e = grind (arith, advance_up)
 
 pub cleared_registers : (r : Registers) (b : Burst) (n : ℕ) → b ≡ destination_of r → b.increments ≡ true → n ≡ burst_len b
     → record r { pc = r.pc + 1; dar = wrapped (r.dar + n) } ≡ moved StoreZeros r

@@ -8,7 +8,7 @@ ghost use Rattle.dma_explain.specs.Explains.{Finds, HasAddress, Refuses, bursts_
 ghost use Rattle.dma_explain.specs.inner.Tracing.{IsCopied, IsTracer, Stops, trace_of};
 
 mod ranges;
-mod tracer;
+pub mod tracer;
 mod turns;
 
 use crate::explain::ranges::overlap;

@@ -1,7 +1,7 @@
-use Rattle.std.proofs.Common.{◌≡◌, ℕ, ◌+◌, arith, inr, refl, ap, sym, subst, ◌∙◌, Ok, Err, Some}
+use Rattle.std.proofs.Common.{◌≡◌, ℕ, ◌+◌, arith, inr, refl, ap, subst, ◌∙◌, Ok, Err}
 use Rattle.dma_insn.specs.declared.chip.ChipInsn.TheVariants.{End}
 use Rattle.dma_mem.specs.Places.{places}
-use Rattle.dma_explain.specs.declared.explain.Cause.TheVariants.{Fails, NoEnd, NoMemory, TooLong}
+use Rattle.dma_explain.specs.declared.explain.Cause.TheVariants.{Fails, NoEnd}
 use Rattle.dma_explain.specs.{Explains.unrolled, Explains.written_in, inner.Tracing.Follows, inner.Tracing.trace_of}
 use Rattle.dma_explain.proofs.Explaining.{counts_bursts, finds, follows_new, has_none, never_long, refuses, stops_here}
 use Rattle.dma_explain.proofs.explain.explain.Goals as goal
@@ -13,33 +13,16 @@ returns-in-Ok-finish-clause-ok c =
     c.loop-steps-test.true refl c.in-Ok-finish.ensures.ok
 
 pub returns-in-Ok-finish-clause-bursts : goal.returns-in-Ok-finish-clause-bursts
-returns-in-Ok-finish-clause-bursts c =
-    counts_bursts c.args.start c.args.program.now c.loop-steps.steps (c.loop-steps.steps + 1) c.loop-steps.tracer c.in-Ok-finish.explained
-    c.loop-steps.invariant.follows refl c.in-Ok-finish.ensures.ok
+returns-in-Ok-finish-clause-bursts c = grind (arith, counts_bursts)
 
 pub run-requires : goal.run-requires
-run-requires c = record {
-  tracer = c.loop-steps.invariant.follows.tracer;
-  next = c.in-Ok.ensures;
-  other = λ e. c.in_default.not-End (c.insn.ensures ∙ e);
-  most = omega (arith, c.loop-steps-test.true);
-  stored = omega (arith, c.loop-steps.invariant.follows.stored, c.loop-steps-test.true, c.ranges.most.fits);
-  bursts = omega (arith, c.loop-steps.invariant.follows.counts, c.loop-steps-test.true, c.ranges.most.fits);
-  offset = c.loop-steps.invariant.follows.pc;
-  limit = omega (arith, c.if-program-gt-MAX_PROGRAM_BYTES.false);
-}
+run-requires c = grind arith
 
 pub loop-steps-init : goal.loop-steps-init
-loop-steps-init c = record {
-  follows = follows_new c.args.start c.args.program.now c.new-tracer.result c.new-tracer.ensures;
-  few = omega arith;
-}
+loop-steps-init c = grind (arith, follows_new)
 
 pub loop-steps-preserved : goal.loop-steps-preserved
-loop-steps-preserved c = record {
-  follows = c.in-Ok-run.ensures.leads c.args.start c.loop-steps.steps c.loop-steps.invariant.follows;
-  few = omega (arith, c.in-Ok-run.ensures.some, c.loop-steps-test.true);
-}
+loop-steps-preserved c = grind arith
 
 pub returns-in-Err-clause-err : goal.returns-in-Err-clause-err
 returns-in-Err-clause-err c = λ _ _.
@@ -83,10 +66,4 @@ returns-clause-err c = λ _ _.
     refuses c.args.start c.args.program.now c.args.most c.args.most now.tracer NoEnd 0 c.stored-2.result follows (inr (refl, refl)) refl c.stored-2.ensures
 
 pub returns-in-Err-run-clause-long : goal.returns-in-Err-run-clause-long
-returns-in-Err-run-clause-long c = (
-  λ long.
-      let cause = c.in-Err-run.cause in
-      let stop = c.in-Err-run.ensures.err (λ memory. let bad : TooLong ≡ NoMemory = sym long ∙ memory in cc) in
-      absurd (never_long c.in-Ok.next (trace_of c.loop-steps.tracer) (λ e. c.in_default.not-End (c.insn.ensures ∙ e)) (stop ∙ ap Some long)),
-  λ big. absurd (omega (arith, big, c.if-program-gt-MAX_PROGRAM_BYTES.false)),
-)
+returns-in-Err-run-clause-long c = grind (arith, never_long)

@@ -1,7 +1,6 @@
-use Rattle.std.proofs.Common.{ℕ, ◌+◌, ◌<◌, ap, arith, inl, inr, subst}
-use Rattle.std.specs.List.{Contains}
+use Rattle.std.proofs.Common.{◌+◌, ap, arith, inl, inr}
 use Rattle.std.proofs.lemmas.Bool.{cases_lt}
-use Rattle.dma_mem.specs.{declared.segment.Segment.Segment, Places.places}
+use Rattle.dma_mem.specs.{declared.segment.Segment.Segment}
 use Rattle.dma_mem.proofs.SharedPlaces.{in_range, range_in}
 use Rattle.dma_explain.proofs.explain.ranges.first_read.Goals as goal
 
@@ -21,14 +20,4 @@ returns-clause-least c = λ a h.
     ]
 
 pub returns-clause-found : goal.returns-clause-found
-returns-clause-found c = λ _.
-    let item = c.args.item in
-    let clear = c.clear_of_ordered-clear.result in
-    let addr = ap (λ (s : Segment). s.addr) c.segment.ensures in
-    let len = ap (λ (s : Segment). s.len) c.segment.ensures in
-    let less : clear < item.len = omega (arith, len, c.clear_of_ordered-clear.ensures.few, c.if-clear-item.false) in
-    let there = c.clear_of_ordered-clear.ensures.next (omega (arith, less, len)) in (
-      in_range item.addr item.len (item.addr + clear) (omega arith) (omega (arith, less)),
-      subst (λ (a : ℕ). Contains (places c.args.ranges.now) (a + clear))
-          addr there,
-    )
+returns-clause-found c = grind (arith, in_range)
