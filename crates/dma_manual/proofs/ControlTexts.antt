@@ -43,8 +43,7 @@ are_set_append (w ∷ ws) vs f g h a b = (a.0, a.1, a.2, a.3, are_set_append ws 
 
 fields_space : (k : ℕ) (f : Fields) (rest : List ℕ) → fields_from k f (32 ∷ rest) ≡ fields_from k f rest
 unfolding fields_from
-fields_space zero f rest = rw (next_space rest) refl
-fields_space (suc k) f rest = rw (next_space rest) refl
+fields_space k f rest = grind (arith, next_space)
 
 fields_read : (ws : List (List ℕ)) (k : ℕ) (f g : Fields) (tail : List ℕ) → length ws ≤ k → AreSet f ws g → list_all is_space tail ≡ true
     → fields_from k f (spaced ws tail) ≡ Ok (word_of g)
@@ -75,24 +74,14 @@ key Destination = 100
 abbrev with_key : Side → List (List ℕ) → List (List ℕ)
 with_key side names = map (λ name. key side ∷ name) names
 
-source_word : (f : Fields) (name rest : List ℕ) (e : EndFields) → set_end f.src Source name (115 ∷ name) rest ≡ Ok e
-    → set_field f (115 ∷ name) rest ≡ Ok (record f { src = e })
-source_word f name rest e h = rw h refl
-
-destination_word : (f : Fields) (name rest : List ℕ) (e : EndFields) → set_end f.dst Destination name (100 ∷ name) rest ≡ Ok e
-    → set_field f (100 ∷ name) rest ≡ Ok (record f { dst = e })
-destination_word f name rest e h = rw h refl
-
 source_set : (names : List (List ℕ)) (f : Fields) (d : EndFields) → EndSet Source f.src names d → AreSet f (with_key Source names) (record f { src = d })
 source_set [] f d a = ap (λ (x : EndFields). record f { src = x }) a
-source_set (name ∷ names) f d a =
-    (record f { src = a.0 }, refl, a.1, λ rest. source_word f name rest a.0 (a.2 (115 ∷ name) rest), source_set names (record f { src = a.0 }) d a.3)
+source_set (name ∷ names) f d a = grind (arith, source_set names (record f { src = a.0 }) d a.3)
 
 destination_set : (names : List (List ℕ)) (f : Fields) (d : EndFields) → EndSet Destination f.dst names d
     → AreSet f (with_key Destination names) (record f { dst = d })
 destination_set [] f d a = ap (λ (x : EndFields). record f { dst = x }) a
-destination_set (name ∷ names) f d a =
-    (record f { dst = a.0 }, refl, a.1, λ rest. destination_word f name rest a.0 (a.2 (100 ∷ name) rest), destination_set names (record f { dst = a.0 }) d a.3)
+destination_set (name ∷ names) f d a = grind (arith, destination_set names (record f { dst = a.0 }) d a.3)
 
 -- the names of an end's fields
 abbrev flag_name : ℕ → ℕ → List (List ℕ)
@@ -108,14 +97,7 @@ flag_name_le : (k n : ℕ) → length (flag_name k n) ≤ 1
 flag_name_le k n = elim (eqb n 0) as (λ (t : Bool). length (cond t [] ((k ∷ plain (decimal n)) ∷ [])) ≤ 1) [ true ↦ omega arith | false ↦ omega arith ]
 
 names_of_le : (side : Side) (e : BurstEnd) → length (names_of side e) ≤ 5
-names_of_le side e =
-    omega (
-      arith,
-      length-append (flag_name 112 e.protection) (flag_name 99 (cache_signals side e.cache)),
-      flag_name_le 112 e.protection,
-      flag_name_le 99
-          (cache_signals side e.cache),
-    )
+names_of_le side e = grind (arith, length-append, flag_name_le)
 
 -- some fields of an end
 abbrev with_three : ℕ → BeatSize → Bool → Option ℕ → Option ℕ → EndFields
@@ -123,13 +105,6 @@ with_three b s i p c = record { beats = Some b; size = Some s; increments = Some
 
 abbrev flag : ℕ → ℕ → Option ℕ
 flag n code = cond (eqb n 0) None (Some code)
-
-beats_set : (side : Side) (n : ℕ) (word rest : List ℕ) → 1 ≤ n → n ≤ 16
-    → set_end no_end side (98 ∷ plain (decimal n)) word rest ≡ Ok (record no_end { beats = Some n })
-beats_set side n word rest low high =
-    let r = decimal_read n (omega arith) in
-    let value = r.value in
-    rw (value, le-leb 1 n low, le-leb n 16 high) refl
 
 size_set : (side : Side) (b : ℕ) (s : BeatSize) (word rest : List ℕ)
     → set_end (record no_end { beats = Some b }) side (115 ∷ plain (decimal (8 * beat_bytes s))) word rest ≡ Ok
@@ -140,8 +115,7 @@ size_set side b _ word rest = refl
 
 increments_set : (side : Side) (b : ℕ) (s : BeatSize) (i : Bool) (word rest : List ℕ)
     → set_end (record no_end { beats = Some b; size = Some s }) side (plain (increment_name i)) word rest ≡ Ok (with_three b s i None None)
-increments_set side b s true word rest = refl
-increments_set side b s false word rest = refl
+increments_set side b s i word rest = grind (arith)
 
 size_word : (s : BeatSize) → list_all is_word_byte (115 ∷ plain (decimal (8 * beat_bytes s))) ≡ true
 unfolding digits
@@ -149,15 +123,15 @@ size_word One = refl
 size_word _ = refl
 
 increments_word : (i : Bool) → list_all is_word_byte (plain (increment_name i)) ≡ true
-increments_word true = refl
-increments_word false = refl
+increments_word i = grind (arith)
 
 first_set : (side : Side) (e : BurstEnd) → HasEndRanges e → EndSet side no_end (first_names e) (with_three e.beats e.size e.increments None None)
 first_set side e h =
-    let r = decimal_read e.beats (let most = h.beats in omega arith) in (
+    let r = decimal_read e.beats (let most = h.beats in omega arith) in
+    let value = r.value in (
       record no_end { beats = Some e.beats },
       r.word,
-      λ word rest. beats_set side e.beats word rest h.some h.beats,
+      λ word rest. rw (value, le-leb 1 e.beats h.some, le-leb e.beats 16 h.beats) refl,
       (
         record no_end { beats = Some e.beats; size = Some e.size },
         size_word e.size,
@@ -171,56 +145,41 @@ first_set side e h =
       ),
     )
 
-protection_set : (side : Side) (b : ℕ) (s : BeatSize) (i : Bool) (p : ℕ) (word rest : List ℕ) → p < 8
-    → set_end (with_three b s i None None) side (112 ∷ plain (decimal p)) word rest ≡ Ok (with_three b s i (Some p) None)
-protection_set side b s i p word rest small =
-    let r = decimal_read p (omega arith) in
-    let value = r.value in
-    rw (value, le-leb 0 p (omega arith), le-leb p 7 (omega arith)) refl
-
-cache_set : (side : Side) (b : ℕ) (s : BeatSize) (i : Bool) (p : Option ℕ) (n c : ℕ) (word rest : List ℕ) → n ≤ 15 → cache_of side n ≡ Some c
-    → set_end (with_three b s i p None) side (99 ∷ plain (decimal n)) word rest ≡ Ok (with_three b s i p (Some c))
-cache_set side b s i p n c word rest small back =
-    let r = decimal_read n (omega arith) in
-    let value = r.value in
-    rw (value, le-leb 0 n (omega arith), le-leb n 15 small, back) refl
-
 protection_flag : (side : Side) (b : ℕ) (s : BeatSize) (i : Bool) (p : ℕ) → p < 8
     → EndSet side (with_three b s i None None) (flag_name 112 p) (with_three b s i (flag p p) None)
 protection_flag side b s i p small =
     let r = decimal_read p (omega arith) in
+    let value = r.value in
     elim (eqb p 0) as (λ (t : Bool). EndSet side (with_three b s i None None) (cond t [] ((112 ∷ plain (decimal p)) ∷ []))
     (with_three b s i (cond t None (Some p)) None)) [
       | true ↦ refl
-      | false ↦ (with_three b s i (Some p) None, r.word, λ word rest. protection_set side b s i p word rest small, refl)
+      | false ↦ (with_three b s i (Some p) None, r.word, λ word rest. rw (value, le-leb 0 p (omega arith), le-leb p 7 (omega arith)) refl, refl)
     ]
 
 cache_flag : (side : Side) (b : ℕ) (s : BeatSize) (i : Bool) (p : Option ℕ) (n c : ℕ) → n ≤ 15 → cache_of side n ≡ Some c
     → EndSet side (with_three b s i p None) (flag_name 99 n) (with_three b s i p (flag n c))
 cache_flag side b s i p n c small back =
     let r = decimal_read n (omega arith) in
+    let value = r.value in
     elim (eqb n 0) as (λ (t : Bool). EndSet side (with_three b s i p None) (cond t [] ((99 ∷ plain (decimal n)) ∷ []))
     (with_three b s i p (cond t None (Some c)))) [
       | true ↦ refl
-      | false ↦ (with_three b s i p (Some c), r.word, λ word rest. cache_set side b s i p n c word rest small back, refl)
+      | false ↦ (with_three b s i p (Some c), r.word, λ word rest. rw (value, le-leb 0 n (omega arith), le-leb n 15 small, back) refl, refl)
     ]
 
 -- each cache field is read from its signals
 pub signals_le : (side : Side) (c : ℕ) → c < 8 → cache_signals side c ≤ 15
-signals_le Source c small = omega arith
-signals_le Destination c small = omega arith
+signals_le side c h = grind (arith)
 
 caches : (side : Side) → each 8 (λ c. cache_of side (cache_signals side c)) ≡ each 8 (λ c. Some c)
-caches Source = refl
-caches Destination = refl
+caches side = grind (arith)
 
 cache_back : (side : Side) (c : ℕ) → c < 8 → cache_of side (cache_signals side c) ≡ Some c
 cache_back side c small = each_at (λ c. cache_of side (cache_signals side c)) (λ c. Some c) 8 c (caches side) small
 
 -- a field that is not printed has the default
 flags : (side : Side) → each 8 (λ c. unwrap_or (flag (cache_signals side c) c) 0) ≡ each 8 (λ c. c)
-flags Source = refl
-flags Destination = refl
+flags side = grind (arith)
 
 flag_back : (side : Side) (c : ℕ) → c < 8 → unwrap_or (flag (cache_signals side c) c) 0 ≡ c
 flag_back side c small = each_at (λ c. unwrap_or (flag (cache_signals side c) c) 0) (λ c. c) 8 c (flags side) small
@@ -240,8 +199,7 @@ end_set side e h =
     (cache_flag side e.beats e.size e.increments p n e.cache (signals_le side e.cache h.cache) (cache_back side e.cache h.cache)))
 
 end_of_fields : (side : Side) (e : BurstEnd) → HasEndRanges e → end_of (fields_of side e) ≡ e
-end_of_fields side e h =
-    ap₂ (λ (p c : ℕ). record e { protection = p; cache = c }) (flag_back Source e.protection h.protection) (flag_back side e.cache h.cache)
+end_of_fields side e h = grind (arith, flag_back)
 
 -- The printed ends are these words.
 five : (b s a p c rest : List ℕ) → plain ((((b ++ s) ++ a) ++ p) ++ c) ++ rest ≡ plain b ++ (plain s ++ (plain a ++ (plain p ++ (plain c ++ rest))))
@@ -249,51 +207,22 @@ five b s a p c rest = simp (map-append, append_assoc)
 
 field_plain : (side : Side) (name : ℕ) (value rest : List ℕ)
     → plain (field_text (letter side) (name ∷ []) value) ++ rest ≡ 32 ∷ ((key side ∷ plain_byte name ∷ plain value) ++ rest)
-field_plain Source name value rest = refl
-field_plain Destination name value rest = refl
+field_plain side name value rest = grind (arith)
 
 flag_plain : (side : Side) (name n : ℕ) (rest : List ℕ)
     → plain (flag_text (letter side) (name ∷ []) n) ++ rest ≡ spaced (with_key side (flag_name (plain_byte name) n)) rest
-flag_plain side name n rest =
-    elim (eqb n 0) as (λ (t : Bool). plain (cond t [] (field_text (letter side) (name ∷ []) (decimal n))) ++ rest ≡ spaced
-    (with_key side (cond t [] ((plain_byte name ∷ plain (decimal n)) ∷ []))) rest) [
-      | true ↦ refl
-      | false ↦ field_plain side name (decimal n) rest
-    ]
+flag_plain side name n rest = grind (arith, field_plain)
 
 increments_plain : (side : Side) (i : Bool) (rest : List ℕ)
     → plain (codes " " ++ letter side ++ increment_name i) ++ rest ≡ 32 ∷ ((key side ∷ plain (increment_name i)) ++ rest)
-increments_plain Source i rest = refl
-increments_plain Destination i rest = refl
+increments_plain side i rest = grind (arith)
 
 end_plain : (side : Side) (e : BurstEnd) (rest : List ℕ) → plain (end_text side e) ++ rest ≡ spaced (with_key side (names_of side e)) rest
-end_plain side e rest =
-    let n = cache_signals side e.cache in
-    let b = field_text (letter side) (codes "B") (decimal e.beats) in
-    let s = field_text (letter side) (codes "S") (decimal (8 * beat_bytes e.size)) in
-    let a = codes " " ++ letter side ++ increment_name e.increments in
-    let p = flag_text (letter side) (codes "P") e.protection in
-    let c = flag_text (letter side) (codes "C") n in
-    let ps = with_key side (flag_name 112 e.protection) in
-    let cs = with_key side (flag_name 99 n) in
-    let flags_are : plain p ++ (plain c ++ rest) ≡ spaced (with_key side (flag_name 112 e.protection ++ flag_name 99 n)) rest =
-    ap (λ (l : List ℕ). plain p ++ l) (flag_plain side 67 n rest) ∙ flag_plain side 80 e.protection (spaced cs rest) ∙ sym (spaced_append ps cs rest)
-    ∙ ap (λ (l : List (List ℕ)). spaced l rest) (sym (map-append (λ name. key side ∷ name) (flag_name 112 e.protection) (flag_name 99 n))) in
-    five b s a p c rest ∙ field_plain side 66 (decimal e.beats) (plain s ++ (plain a ++ (plain p ++ (plain c ++ rest))))
-    ∙ ap (λ (l : List ℕ). 32 ∷ ((key side ∷ 98 ∷ plain (decimal e.beats)) ++ l))
-    (field_plain side 83 (decimal (8 * beat_bytes e.size)) (plain a ++ (plain p ++ (plain c ++ rest)))
-    ∙ ap (λ (l : List ℕ). 32 ∷ ((key side ∷ 115 ∷ plain (decimal (8 * beat_bytes e.size))) ++ l))
-    (increments_plain side e.increments (plain p ++ (plain c ++ rest))
-    ∙ ap (λ (l : List ℕ). 32 ∷ ((key side ∷ plain (increment_name e.increments)) ++ l)) flags_are))
+end_plain side e rest = grind (arith, flag_plain, spaced_append, map-append, five, field_plain, increments_plain)
 
 control_plain : (c : Control) (tail : List ℕ) → plain (end_text Source c.src ++ end_text Destination c.dst) ++ tail
     ≡ spaced (with_key Source (names_of Source c.src) ++ with_key Destination (names_of Destination c.dst)) tail
-control_plain c tail =
-    let s = end_text Source c.src in
-    let d = end_text Destination c.dst in
-    plain_append_law s d tail ∙ ap (λ (l : List ℕ). plain s ++ l) (end_plain Destination c.dst tail)
-    ∙ end_plain Source c.src (spaced (with_key Destination (names_of Destination c.dst)) tail)
-    ∙ sym (spaced_append (with_key Source (names_of Source c.src)) (with_key Destination (names_of Destination c.dst)) tail)
+control_plain c tail = grind (arith, plain_append_law, end_plain, spaced_append)
 
 -- The words of a control word's ends set its fields.
 ends_set : (c : Control) → HasEndRanges c.src → HasEndRanges c.dst
@@ -311,16 +240,7 @@ ends_read : (c : Control) (tail : List ℕ) → HasEndRanges c.src → HasEndRan
 ends_read c tail s d spaces =
     let ss = with_key Source (names_of Source c.src) in
     let ds = with_key Destination (names_of Destination c.dst) in
-    let fits : length (ss ++ ds) ≤ 11 =
-    omega (
-      arith,
-      length-append ss ds,
-      length-map (names_of Source c.src) (λ name. key Source ∷ name),
-      length-map (names_of Destination c.dst)
-          (λ name. key Destination ∷ name),
-      names_of_le Source c.src,
-      names_of_le Destination c.dst,
-    ) in
+    let fits : length (ss ++ ds) ≤ 11 = grind (arith, length-append, length-map, names_of_le) in
     fields_space 11 no_fields (spaced (ss ++ ds) tail)
     ∙ fields_read (ss ++ ds) 11 no_fields (record { src = fields_of Source c.src; dst = fields_of Destination c.dst; swap = false }) tail fits (ends_set c s d)
     spaces
@@ -328,11 +248,7 @@ ends_read c tail s d spaces =
 
 -- an accepted word has its ends in range
 pub ranges_of : (v : ℕ) (c : Control) → HasFields v c → HasEndRanges c.src × HasEndRanges c.dst
-ranges_of v c h =
-    let a = h.src_beats in let b = h.src_protection in let e = h.src_cache in let x = h.dst_beats in let y = h.dst_protection in let z = h.dst_cache in (
-      record { some = omega arith; beats = omega arith; protection = omega arith; cache = omega arith },
-      record { some = omega arith; beats = omega arith; protection = omega arith; cache = omega arith },
-    )
+ranges_of v c h = grind arith
 
 -- What follows DMAMOV CCR is read as the word.
 control_by : (v : ℕ) (tail : List ℕ) (r : Result Control ControlFault) → control_of v ≡ r → v < 2 ^ 32 → list_all is_space tail ≡ true
@@ -363,35 +279,16 @@ field_inline Source name n small word = let r = decimal_read n small in and_from
 field_inline Destination name n small word = let r = decimal_read n small in and_from _ _ word r.inline
 
 flag_inline : (side : Side) (name n : ℕ) → n ≤ 256 → is_inline name ≡ true → list_all is_inline (flag_text (letter side) (name ∷ []) n) ≡ true
-flag_inline side name n small word =
-    elim (eqb n 0) as (λ (t : Bool). list_all is_inline (cond t [] (field_text (letter side) (name ∷ []) (decimal n))) ≡ true) [
-      | true ↦ refl
-      | false ↦ field_inline side name n small word
-    ]
+flag_inline side name n small word = grind (arith, field_inline)
 
 increments_inline : (side : Side) (i : Bool) → list_all is_inline (codes " " ++ letter side ++ increment_name i) ≡ true
-increments_inline Source true = refl
-increments_inline Destination true = refl
-increments_inline _ _ = refl
+increments_inline side i = grind (arith)
 
 pub size_le : (s : BeatSize) → 8 * beat_bytes s ≤ 256
-size_le One = omega arith
-size_le _ = omega arith
+size_le s = grind (arith)
 
 end_inline : (side : Side) (e : BurstEnd) → HasEndRanges e → list_all is_inline (end_text side e) ≡ true
-end_inline side e h =
-    let n = cache_signals side e.cache in
-    let b = field_text (letter side) (codes "B") (decimal e.beats) in
-    let s = field_text (letter side) (codes "S") (decimal (8 * beat_bytes e.size)) in
-    let a = codes " " ++ letter side ++ increment_name e.increments in
-    let p = flag_text (letter side) (codes "P") e.protection in
-    let c = flag_text (letter side) (codes "C") n in
-    let beats = h.beats in
-    let protection = h.protection in
-    let signals = signals_le side e.cache h.cache in
-    all_append is_inline (((b ++ s) ++ a) ++ p) c (all_append is_inline ((b ++ s) ++ a) p (all_append is_inline (b ++ s) a
-    (all_append is_inline b s (field_inline side 66 e.beats (omega arith) refl) (field_inline side 83 (8 * beat_bytes e.size) (size_le e.size) refl))
-    (increments_inline side e.increments)) (flag_inline side 80 e.protection (omega arith) refl)) (flag_inline side 67 n (omega arith) refl)
+end_inline side e h = grind (arith, signals_le, all_append, field_inline, size_le, increments_inline, flag_inline)
 
 inline_by : (v : ℕ) (r : Result Control ControlFault) → control_of v ≡ r → list_all is_inline (control_text_of v r) ≡ true
 inline_by v (Err fault) is = (hex_words v).1

@@ -1,24 +1,19 @@
 -- Where a text is cut: its lines, their comments and their words.
-use Rattle.std.proofs.Common.{◌≡◌, ℕ, Bool, true, false, not, ◌&&◌, ◌==◌, List, [], ◌∷◌, ◌++◌, length, take, drop, min, refl, sym, ap, ap₂, ◌∙◌, Some, None, Option, position, eqb, arith, one-add, inl, inr}
+use Rattle.std.proofs.Common.{◌≡◌, ℕ, Bool, true, false, not, ◌&&◌, ◌==◌, List, [], ◌∷◌, ◌++◌, length, take, drop, min, refl, sym, ap, ◌∙◌, Some, None, Option, position, eqb, arith, one-add}
 use Rattle.std.specs.List.{list_all, position_or_len}
-use Rattle.std.proofs.lemmas.Bool.{and_parts, and_from, cases_lt, lt-ltb, le-ltb, eqb-true, ne_eqb, false≢true}
+use Rattle.std.proofs.lemmas.Bool.{and_parts, and_from, cases_lt, lt-ltb, le-ltb, eqb-true, ne_eqb}
 use Rattle.std.proofs.lemmas.List.{take_min, drop_min}
+use Rattle.std.proofs.lemmas.List.Folds.{list_all-append}
 use Rattle.std.specs.List.{onto_first}
 use Rattle.dma_text.specs.Lines.{text_lines}
 use Rattle.dma_manual.specs.Words.{begins_comment, code_of, cut_at_gap, is_word_byte, next_of, place_or_len}
 
 pub all_append : (p : ℕ → Bool) (xs ys : List ℕ) → list_all p xs ≡ true → list_all p ys ≡ true → list_all p (xs ++ ys) ≡ true
-all_append p [] ys h k = k
-all_append p (x ∷ xs) ys h k =
-    let parts = and_parts (p x) (list_all p xs) h in and_from (p x) (list_all p (xs ++ ys)) parts.0 (all_append p xs ys parts.1 k)
+all_append p xs ys h k = rw (list_all-append p xs ys, h, k) refl
 
 -- the place of a test's first byte, or the length of the bytes
 place_is : (p : ℕ → Bool) (xs : List ℕ) → place_or_len (position p xs) xs ≡ min (position_or_len p xs) (length xs)
-place_is p xs =
-    elim (cases_lt (position_or_len p xs) (length xs)) [
-      | inl less ↦ rw (lt-ltb _ _ less) refl
-      | inr more ↦ rw (le-ltb _ _ more) (omega arith)
-    ]
+place_is p xs = grind (arith, cases_lt, lt-ltb, le-ltb)
 
 -- whether a byte is within a line, and before its comment
 abbrev pub is_inline : ℕ → Bool
@@ -34,8 +29,7 @@ inline_no_feed (b ∷ xs) h =
     and_from (no_feed b) (list_all no_feed xs) (and_parts (no_feed b) (not (begins_comment b)) parts.0).0 (inline_no_feed xs parts.1)
 
 not_true : (t : Bool) → not t ≡ true → t ≡ false
-not_true true h = absurd (false≢true h)
-not_true false h = refl
+not_true t h = grind (arith)
 
 -- lines
 pub lines_feed : (line rest : List ℕ) → list_all no_feed line ≡ true → text_lines (line ++ 10 ∷ rest) ≡ line ∷ text_lines rest
@@ -86,8 +80,7 @@ is_gap [] = true
 is_gap (b ∷ bytes) = is_space b
 
 pub gap_spaces : (tail : List ℕ) → list_all is_space tail ≡ true → is_gap tail ≡ true
-gap_spaces [] h = refl
-gap_spaces (b ∷ tail) h = (and_parts (is_space b) (list_all is_space tail) h).0
+gap_spaces tail h = grind (arith, and_parts)
 
 skip_is : (rest : List ℕ) → next_of rest ≡ cut_at_gap (drop (position_or_len is_word_byte rest) rest)
 skip_is rest = ap (λ n. cut_at_gap (drop n rest)) (place_is is_word_byte rest) ∙ ap cut_at_gap (drop_min (position_or_len is_word_byte rest) rest)
@@ -111,22 +104,13 @@ split_is n m bytes e = rw (e, take_min m bytes, drop_min m bytes) refl
 
 cut_some : (b : ℕ) (bytes : List ℕ)
     → cut_at_gap (b ∷ bytes) ≡ Some (take (position_or_len is_space (b ∷ bytes)) (b ∷ bytes), drop (position_or_len is_space (b ∷ bytes)) (b ∷ bytes))
-cut_some b bytes =
-    let n = place_or_len (position is_space (b ∷ bytes)) (b ∷ bytes) in
-    let long : eqb (length (b ∷ bytes)) 0 ≡ false = ne_eqb (length (b ∷ bytes)) 0 (λ z. omega arith) in
-    let cut : cut_at_gap (b ∷ bytes) ≡ Some (take n (b ∷ bytes), drop n (b ∷ bytes)) = rw long refl in
-    cut ∙ split_is n (position_or_len is_space (b ∷ bytes)) (b ∷ bytes) (place_is is_space (b ∷ bytes))
+cut_some b bytes = grind (arith, ne_eqb, split_is, place_is)
 
 at_once : (b : ℕ) (bytes : List ℕ) → is_word_byte b ≡ true → position_or_len is_word_byte (b ∷ bytes) ≡ 0
 at_once b bytes h = rw h refl
 
 pub next_word : (w rest : List ℕ) → has_bytes w ≡ true → list_all is_word_byte w ≡ true → is_gap rest ≡ true → next_of (w ++ rest) ≡ Some (w, rest)
-next_word [] rest s h g = absurd (false≢true s)
-next_word (b ∷ w) rest s h g =
-    let parts = and_parts (is_word_byte b) (list_all is_word_byte w) h in
-    let cut = cut_word (b ∷ w) rest h g in
-    skip_is (b ∷ (w ++ rest)) ∙ ap (λ n. cut_at_gap (drop n (b ∷ (w ++ rest)))) (at_once b (w ++ rest) parts.0) ∙ cut_some b (w ++ rest)
-    ∙ ap₂ (λ (x y : List ℕ). Some (x, y)) cut.0 cut.1
+next_word w rest h h2 h3 = grind (arith, and_parts, cut_word, skip_is, at_once, cut_some)
 
 pub next_none : (tail : List ℕ) → list_all is_space tail ≡ true → next_of tail ≡ None
 next_none [] h = refl

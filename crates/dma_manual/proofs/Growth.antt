@@ -1,17 +1,18 @@
 -- What a line of a text adds to what is read.
-use Rattle.std.proofs.Common.{◌≡◌, ℕ, ◌+◌, ◌≤◌, ◌||◌, List, [], ◌∷◌, ◌++◌, length, refl, Option, Some, None, Result, Ok}
+use Rattle.std.proofs.Common.{arith}
+use Rattle.std.proofs.Common.{◌≡◌, ℕ, ◌+◌, ◌≤◌, Bool, List, [], ◌∷◌, ◌++◌, length, refl, Option, Some, None, Result, Ok}
 use Rattle.std.proofs.lemmas.Bool.{le-leb}
 use Rattle.dma_text.specs.Lines.{text_lines}
 use Rattle.dma_insn.specs.declared.insn.Counter.TheVariants.{Lc0, Lc1}
 use Rattle.dma_insn.specs.declared.chip.ChipInsn.TheVariants.{Lp, LpEnd, LoopAgain}
 use Rattle.dma_insn.specs.{AssemblyText.most_program_bytes, declared.insn.Counter.Counter}
-use Rattle.dma_manual.specs.Assembled.{Read, after_statement, again_of, assembled, condition_of, empty, end_of, ended_loop, first_stray, is_closed_by}
-use Rattle.dma_manual.specs.Assembled.{is_free_or_closed, jump_of, label_in, place_of, slot, take_line, take_lines, with_bytes, with_loop, with_statement}
+use Rattle.dma_manual.specs.Assembled.{Read, after_statement, again_of, assembled, empty, end_of, ended_loop}
+use Rattle.dma_manual.specs.Assembled.{jump_of, label_in, place_of, take_line, take_lines, with_bytes, with_loop, with_statement}
 use Rattle.dma_manual.specs.{declared.insns.ManualInsn.ManualInsn, declared.insns.ManualInsn.TheVariants.Chip, declared.insns.ManualInsn.TheVariants.Other}
 use Rattle.dma_manual.specs.{declared.insns.OtherInsn.TheVariants.LpEndIf, declared.insns.OtherInsn.TheVariants.LoopAgainIf, declared.insns.Request.Request}
-use Rattle.dma_manual.specs.{Insns.spelling, Listing.is_end, Words.code_of, Words.next_of, Statements.statement_at, declared.assembler.Located.Located}
+use Rattle.dma_manual.specs.{Insns.spelling, Words.code_of, Words.next_of, Statements.statement_at, declared.assembler.Located.Located}
 use Rattle.dma_manual.specs.{declared.assembler.Place.Place, declared.loops.LoopKind.LoopKind, declared.loops.LoopKind.TheVariants.Counted}
-use Rattle.dma_manual.specs.{declared.loops.LoopKind.TheVariants.Endless, declared.loops.Loops.Loops, declared.loops.Open.Open, declared.statements.Again.Again}
+use Rattle.dma_manual.specs.{declared.loops.LoopKind.TheVariants.Endless, declared.loops.Loops.Loops, declared.loops.Open.Open, declared.loops.Stray.Stray, declared.statements.Again.Again}
 use Rattle.dma_manual.specs.{declared.statements.Again.TheVariants.Always, declared.statements.Again.TheVariants.If, declared.statements.Statement.Statement}
 use Rattle.dma_manual.proofs.{Numerals.plain, Said.Says, Said.says_read, InsnTexts.statement_of}
 use Rattle.dma_manual.specs.declared.statements.End.{End as LoopTo}
@@ -38,66 +39,27 @@ pub record Grown (r : Read) (bytes : List ℕ) (result : Result Read Located) : 
 bytes_fit : (code bytes : List ℕ) (place : Place) → length code + length bytes ≤ most_program_bytes → with_bytes code bytes place ≡ Ok (code ++ bytes)
 bytes_fit code bytes place fits = rw (le-leb (length code + length bytes) most_program_bytes fits) refl
 
+grown_as : (r : Read) (bytes : List ℕ) (loops : Loops) (stops : Bool) (stray : Option Stray) (result : Result Read Located)
+    → result ≡ Ok (record r { code = r.code ++ bytes; loops = loops; stops = stops; stray = stray }) → Quiet loops → Grown r bytes result
+grown_as r bytes loops stops stray result is q = grind arith
+
 plain_grown : (r : Read) (i : ManualInsn) (place : Place) → length r.code + length (spelling i) ≤ most_program_bytes → Quiet r.loops
     → Grown r (spelling i) (after_statement r (says.Plain i) place)
-plain_grown r i place fits q =
-    record {
-      next = record r { code = r.code ++ spelling i; stops = r.stops || is_end i };
-      is = rw (bytes_fit r.code (spelling i) place fits) refl;
-      code =
-          refl;
-      labels = refl;
-      quiet = q;
-    }
+plain_grown r i place fits q = grind (arith, grown_as, bytes_fit)
 
 loop_grown : (r : Read) (c : Counter) (n : ℕ) (place : Place) → length r.code + length (spelling (Chip (Lp c n))) ≤ most_program_bytes → Quiet r.loops
     → Grown r (spelling (Chip (Lp c n))) (after_statement r (says.Loop (Some c) n) place)
-loop_grown r c n place fits q =
-    let code = r.code ++ spelling (Chip (Lp c n)) in
-    let loop = Some (record { start = length code; unnamed = None }) in
-    record {
-      next = record r { code = code; loops = with_loop r.loops (Counted c) loop };
-      is = rw (bytes_fit r.code (spelling (Chip (Lp c n))) place fits) refl;
-      code = refl;
-      labels = refl;
-      quiet = quiet_with r.loops (Counted c) loop refl q;
-    }
+loop_grown r c n place fits q = grind (arith, grown_as, bytes_fit, quiet_with)
 
 pub end_grown : (r : Read) (c : Counter) (condition : Option Request) (b : ℕ) (end : LoopTo) (place : Place)
     → jump_of r.loops (length r.code) end place ≡ Ok (Counted c, b)
     → length r.code + length (spelling (end_of (Counted c) condition b)) ≤ most_program_bytes → Quiet r.loops
     → Grown r (spelling (end_of (Counted c) condition b)) (after_statement r (says.LoopEnd condition end) place)
-end_grown r c condition b end place jump fits q =
-    let bytes = spelling (end_of (Counted c) condition b) in
-    record {
-      next = record r {
-        code = r.code ++ bytes;
-        loops = with_loop r.loops (Counted c) None;
-        stray = first_stray r.stray (is_closed_by (slot r.loops (Counted c)) (length r.code) b)
-            (record { place = place; kind = Counted c; condition = condition });
-      };
-      is = rw (jump, bytes_fit r.code bytes place fits) refl;
-      code = refl;
-      labels = refl;
-      quiet = quiet_with r.loops (Counted c) None refl q;
-    }
+end_grown r c condition b end place jump fits q = grind (arith, grown_as, bytes_fit, quiet_with)
 
 again_grown : (r : Read) (again : Again) (b : ℕ) (place : Place) → length r.code + length (spelling (again_of again b)) ≤ most_program_bytes → Quiet r.loops
     → Grown r (spelling (again_of again b)) (after_statement r (says.LoopAgain again b) place)
-again_grown r again b place fits q =
-    let bytes = spelling (again_of again b) in
-    record {
-      next = record r {
-        code = r.code ++ bytes;
-        loops = with_loop r.loops Endless None;
-        stray = first_stray r.stray (is_free_or_closed r.loops.endless (length r.code) b)
-            (record { place = place; kind = Endless; condition = condition_of again });
-      };
-      is = rw (bytes_fit r.code bytes place fits) refl;
-      code = refl;
-      labels = refl;
-      quiet = quiet_with r.loops Endless None refl q;
-    }
+again_grown r again b place fits q = grind (arith, grown_as, bytes_fit, quiet_with)
 
 pub insn_grown : (r : Read) (i : ManualInsn) (place : Place) → length r.code + length (spelling i) ≤ most_program_bytes → Quiet r.loops
     → Grown r (spelling i) (after_statement r (statement_of i) place)

@@ -2,7 +2,7 @@
 use Rattle.std.proofs.Common.{◌≡◌, ℕ, ◌+◌, ◌*◌, ◌/◌, ◌%◌, ◌^◌, ◌<◌, ◌≤◌, Bool, true, false, List, [], ◌∷◌, ◌++◌, length, drop, take, refl, sym, ap, ◌∙◌, Ok}
 use Rattle.std.proofs.Common.{Err, arith, cond, eqb, ltb, suc, get_or}
 use Rattle.std.proofs.lemmas.Bool.{cond_both, eqb-true, lt-ltb, le-ltb, ltb-true, ltb-false}
-use Rattle.byteorder.specs.{Numbers.little_number-reads_back, Endian.little_bytes, Endian.little_number}
+use Rattle.byteorder.specs.{Endian.little_bytes, Endian.little_number}
 use Rattle.dma_insn.specs.declared.codec.DecodeFault.TheVariants.{BadField}
 use Rattle.dma_insn.specs.declared.insn.Counter.TheVariants.{Lc0, Lc1}
 use Rattle.dma_insn.specs.{declared.insn.Counter.Counter}
@@ -23,34 +23,20 @@ use Rattle.dma_manual.specs.declared.insns.Awaited.TheVariants as awaited
 -- ---- an encoded instruction is decoded, whatever follows
 
 peripheral_again : (a : Action) (p b : ℕ) (rest : List ℕ) → of_peripheral a (b ∷ (p * 8) ∷ rest) ≡ Ok (OfPeripheral a p, 2)
-peripheral_again a p b rest =
-    let long : 2 ≤ length (b ∷ (p * 8) ∷ rest) = omega arith in
-    let whole : p * 8 % 8 ≡ 0 = omega arith in
-    let part : p * 8 / 8 ≡ p = omega arith in
-    rw (le-ltb (length (b ∷ (p * 8) ∷ rest)) 2 long, whole, part) refl
+peripheral_again a p b rest = grind (arith, le-ltb)
 
 end_again : (r : Request) (c : Counter) (n b : ℕ) (rest : List ℕ) → end_if r c (b ∷ n ∷ rest) ≡ Ok (LpEndIf r c n, 2)
-end_again r c n b rest =
-    let long : 2 ≤ length (b ∷ n ∷ rest) = omega arith in
-    rw (le-ltb (length (b ∷ n ∷ rest)) 2 long) refl
+end_again r c n b rest = rw (le-ltb (length (b ∷ n ∷ rest)) 2 (omega arith)) refl
 
 again_again : (r : Request) (n b : ℕ) (rest : List ℕ) → again_if r (b ∷ n ∷ rest) ≡ Ok (LoopAgainIf r n, 2)
-again_again r n b rest =
-    let long : 2 ≤ length (b ∷ n ∷ rest) = omega arith in
-    rw (le-ltb (length (b ∷ n ∷ rest)) 2 long) refl
+again_again r n b rest = rw (le-ltb (length (b ∷ n ∷ rest)) 2 (omega arith)) refl
 
 go_again : (ns : Bool) (c a b : ℕ) (rest : List ℕ) → c < 8 → a < 2 ^ 32 → go_of ns (b ∷ c ∷ (little_bytes 4 a ++ rest)) ≡ Ok (Go c a ns, 6)
-go_again ns c a b rest channel address =
-    let bytes = b ∷ c ∷ (little_bytes 4 a ++ rest) in
-    let long : 6 ≤ length bytes = omega arith in
-    rw (le-ltb (length bytes) 6 long, lt-ltb c 8 channel, little_number-reads_back 4 a rest address) refl
+go_again ns c a b rest channel address = grind (arith, le-ltb, lt-ltb)
 
 other_again : (i : OtherInsn) (rest : List ℕ) → HasOtherRanges i → decoded (other_spelling i ++ rest) ≡ Ok (Other i, length (other_spelling i))
-other_again Kill rest h = refl
 other_again (LdIf Single) rest h = refl
-other_again (LdIf Burst) rest h = refl
 other_again (StIf Single) rest h = refl
-other_again (StIf Burst) rest h = refl
 other_again (OfPeripheral (action.Ld Single) p) rest h = ap as_other (peripheral_again (action.Ld Single) p 0x25 rest)
 other_again (OfPeripheral (action.Ld Burst) p) rest h = ap as_other (peripheral_again (action.Ld Burst) p 0x27 rest)
 other_again (OfPeripheral (action.St Single) p) rest h = ap as_other (peripheral_again (action.St Single) p 0x29 rest)
@@ -67,10 +53,10 @@ other_again (LoopAgainIf Single n) rest h = ap as_other (again_again Single n 0x
 other_again (LoopAgainIf Burst n) rest h = ap as_other (again_again Burst n 0x2f rest)
 other_again (Go c a false) rest h = ap as_other (go_again false c a 0xa0 rest h.0 h.1)
 other_again (Go c a true) rest h = ap as_other (go_again true c a 0xa2 rest h.0 h.1)
+other_again _ rest h = refl
 
 decoded_spelling : (i : ManualInsn) (rest : List ℕ) → HasRanges i → decoded (spelling i ++ rest) ≡ Ok (i, length (spelling i))
-decoded_spelling (Chip i) rest h = ap (or_other (spelling (Chip i) ++ rest)) (chip_again i rest h)
-decoded_spelling (Other i) rest h = other_again i rest h
+decoded_spelling i rest h = grind (arith, chip_again, other_again)
 
 pub decodes : Decodes HasRanges spelling decoded
 decodes = record { again = decoded_spelling; none = refl }
@@ -88,9 +74,8 @@ peripheral_right : (a : Action) (rest : List ℕ) → IsBytes rest → Right (ac
 peripheral_right a [] h = cut decodes (Other (OfPeripheral a 0)) (action_byte a) [] (0 ∷ []) (omega arith) refl (omega arith)
 peripheral_right a (c ∷ rest) h =
     let b = action_byte a in
-    let long : 2 ≤ length (b ∷ c ∷ rest) = omega arith in
     let byte : c < 256 = h 0 in
-    rw (le-ltb (length (b ∷ c ∷ rest)) 2 long) (cond_both (eqb (c % 8) 0) _ _ (λ r. Right (b ∷ c ∷ rest) (as_other r))
+    rw (le-ltb (length (b ∷ c ∷ rest)) 2 (omega arith)) (cond_both (eqb (c % 8) 0) _ _ (λ r. Right (b ∷ c ∷ rest) (as_other r))
     (λ t. let whole : c % 8 ≡ 0 = eqb-true (c % 8) 0 t in
     let same : c ≡ c / 8 * 8 = omega arith in
     spelled (OfPeripheral a (c / 8)) rest (b ∷ c ∷ rest) 2 (omega arith) refl (ap (λ (k : ℕ). b ∷ k ∷ []) same))
@@ -99,14 +84,13 @@ peripheral_right a (c ∷ rest) h =
 end_right : (r : Request) (l : Counter) (rest : List ℕ) → IsBytes rest → Right (end_if_byte r l ∷ rest) (as_other (end_if r l (end_if_byte r l ∷ rest)))
 end_right r l [] h = cut decodes (Other (LpEndIf r l 0)) (end_if_byte r l) [] (0 ∷ []) (omega arith) refl (omega arith)
 end_right r l (c ∷ rest) h =
-    let long : 2 ≤ length (end_if_byte r l ∷ c ∷ rest) = omega arith in
-    rw (le-ltb (length (end_if_byte r l ∷ c ∷ rest)) 2 long) (spelled (LpEndIf r l c) rest (end_if_byte r l ∷ c ∷ rest) 2 (h 0) refl refl)
+    rw (le-ltb (length (end_if_byte r l ∷ c ∷ rest)) 2 (omega arith)) (spelled (LpEndIf r l c) rest (end_if_byte r l ∷ c ∷ rest) 2 (h 0) refl refl)
 
 again_right : (r : Request) (rest : List ℕ) → IsBytes rest → Right ((0x2d + request_bits r) ∷ rest) (as_other (again_if r ((0x2d + request_bits r) ∷ rest)))
 again_right r [] h = cut decodes (Other (LoopAgainIf r 0)) ((0x2d + request_bits r)) [] (0 ∷ []) (omega arith) refl (omega arith)
 again_right r (c ∷ rest) h =
-    let long : 2 ≤ length ((0x2d + request_bits r) ∷ c ∷ rest) = omega arith in
-    rw (le-ltb (length ((0x2d + request_bits r) ∷ c ∷ rest)) 2 long) (spelled (LoopAgainIf r c) rest ((0x2d + request_bits r) ∷ c ∷ rest) 2 (h 0) refl refl)
+    rw (le-ltb (length ((0x2d + request_bits r) ∷ c ∷ rest)) 2 (omega arith))
+    (spelled (LoopAgainIf r c) rest ((0x2d + request_bits r) ∷ c ∷ rest) 2 (h 0) refl refl)
 
 -- DMAGO with all its bytes
 go_whole : (ns : Bool) (c : ℕ) (rest : List ℕ) → IsBytes rest → 4 ≤ length rest

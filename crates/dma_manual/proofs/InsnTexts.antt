@@ -7,12 +7,12 @@ use Rattle.dma_insn.specs.declared.chip.ChipInsn.TheVariants.{Mov, Ld, St, Rmb, 
 use Rattle.dma_insn.specs.{declared.insn.Counter.TheVariants.Lc0, declared.insn.Counter.TheVariants.Lc1, declared.chip.ChipInsn.ChipInsn}
 use Rattle.dma_insn.specs.{declared.chip.Address.TheVariants.Source, declared.chip.Address.TheVariants.Destination}
 use Rattle.dma_manual.specs.declared.insns.OtherInsn.TheVariants.{Kill, LdIf, StIf, OfPeripheral, LpEndIf, LoopAgainIf, Go}
-use Rattle.dma_manual.specs.ManualText.{control_text, insn_text, manual_text, other_text}
+use Rattle.dma_manual.specs.ManualText.{counter_name, end_name, control_text, insn_text, manual_text, other_text}
 use Rattle.dma_manual.specs.{declared.insns.ManualInsn.ManualInsn, declared.insns.ManualInsn.TheVariants.Chip, declared.insns.ManualInsn.TheVariants.Other}
 use Rattle.dma_manual.specs.{declared.insns.OtherInsn.OtherInsn, declared.insns.Request.TheVariants.Single, declared.insns.Request.TheVariants.Burst}
 use Rattle.dma_manual.specs.{Insns.HasOtherRanges, Insns.HasRanges, Statements.Label, Statements.by_name, Statements.by_other_name}
 use Rattle.dma_manual.specs.{declared.statements.Again.TheVariants.Always, declared.statements.Again.TheVariants.If, declared.statements.Statement.Statement}
-use Rattle.dma_manual.proofs.Numerals.{decimal_read, hex_words, plain, plain_append_law}
+use Rattle.dma_manual.proofs.Numerals.{decimal_read, hex_words, plain, plain_append_law, plain_four}
 use Rattle.dma_manual.proofs.Said.{Says, address_said, half_inline, says_add, says_again, says_again_flag, says_again_if, says_back, says_bare, says_invalid}
 use Rattle.dma_manual.proofs.Said.{says_loop, says_set, says_signal, says_subtract, says_wait}
 use Rattle.dma_manual.proofs.OtherTexts.{says_await, says_go, says_go_secure, says_peripheral}
@@ -40,10 +40,10 @@ chip_says labels St tail h spaces = says_bare labels tail spaces (codes "dmast")
 chip_says labels Rmb tail h spaces = says_bare labels tail spaces (codes "dmarmb") (Chip Rmb) refl refl refl (λ none. rw none refl)
 chip_says labels Wmb tail h spaces = says_bare labels tail spaces (codes "dmawmb") (Chip Wmb) refl refl refl (λ none. rw none refl)
 chip_says labels Nop tail h spaces = says_bare labels tail spaces (codes "dmanop") (Chip Nop) refl refl refl (λ none. rw none refl)
-chip_says labels (Lp Lc0 n) tail h spaces = says_loop labels tail spaces Lc0 (codes "lc0") n refl refl refl h.0 h.1
-chip_says labels (Lp Lc1 n) tail h spaces = says_loop labels tail spaces Lc1 (codes "lc1") n refl refl refl h.0 h.1
-chip_says labels (LpEnd Lc0 b) tail h spaces = says_back labels tail spaces None Lc0 (codes "lc0") b refl refl refl refl (omega arith)
-chip_says labels (LpEnd Lc1 b) tail h spaces = says_back labels tail spaces None Lc1 (codes "lc1") b refl refl refl refl (omega arith)
+chip_says labels (Lp Lc0 n) tail h spaces = says_loop labels tail spaces Lc0 n h.0 h.1
+chip_says labels (Lp Lc1 n) tail h spaces = says_loop labels tail spaces Lc1 n h.0 h.1
+chip_says labels (LpEnd Lc0 b) tail h spaces = says_back labels tail spaces None Lc0 b (omega arith)
+chip_says labels (LpEnd Lc1 b) tail h spaces = says_back labels tail spaces None Lc1 b (omega arith)
 chip_says labels (Sev e) tail h spaces = says_signal labels tail spaces e (omega arith)
 chip_says labels (Wfe e false) tail h spaces = says_wait labels tail spaces e (omega arith)
 chip_says labels (Wfe e true) tail h spaces =
@@ -91,10 +91,10 @@ other_says labels (OfPeripheral (action.Wait awaited.Burst) p) tail h spaces =
     says_await labels tail spaces awaited.Burst (codes ", burst") (codes "burst") p (omega arith) refl refl refl refl
 other_says labels (OfPeripheral (action.Wait awaited.Either) p) tail h spaces =
     says_await labels tail spaces awaited.Either (codes ", periph") (codes "periph") p (omega arith) refl refl refl refl
-other_says labels (LpEndIf Single Lc0 b) tail h spaces = says_back labels tail spaces (Some Single) Lc0 (codes "lc0") b refl refl refl refl (omega arith)
-other_says labels (LpEndIf Single Lc1 b) tail h spaces = says_back labels tail spaces (Some Single) Lc1 (codes "lc1") b refl refl refl refl (omega arith)
-other_says labels (LpEndIf Burst Lc0 b) tail h spaces = says_back labels tail spaces (Some Burst) Lc0 (codes "lc0") b refl refl refl refl (omega arith)
-other_says labels (LpEndIf Burst Lc1 b) tail h spaces = says_back labels tail spaces (Some Burst) Lc1 (codes "lc1") b refl refl refl refl (omega arith)
+other_says labels (LpEndIf r c b) tail h spaces =
+    subst (λ (l : List ℕ). Says labels l (says.LoopEnd (Some r) (ends.Back c b)))
+    (sym (plain_four (end_name (Some r)) (codes " ") (counter_name c) (codes ", -" ++ decimal b) tail))
+    (says_back labels tail spaces (Some r) c b (omega arith))
 other_says labels (LoopAgainIf Single b) tail h spaces = says_again_if labels tail spaces Single b (omega arith)
 other_says labels (LoopAgainIf Burst b) tail h spaces = says_again_if labels tail spaces Burst b (omega arith)
 other_says labels (Go c a false) tail h spaces = says_go labels tail spaces c a (omega (arith, h.0)) h.1
@@ -152,12 +152,9 @@ other_inline (LoopAgainIf Single b) h = let r = decimal_read b (omega arith) in 
 other_inline (LoopAgainIf Burst b) h = let r = decimal_read b (omega arith) in r.inline
 other_inline (Go c a false) h = go_inline c a [] h.0 refl
 other_inline (Go c a true) h = go_inline c a (codes ", ns") h.0 refl
-other_inline Kill h = refl
 other_inline (LdIf Single) h = refl
-other_inline (LdIf Burst) h = refl
 other_inline (StIf Single) h = refl
-other_inline (StIf Burst) h = refl
+other_inline _ h = refl
 
 pub insn_inline : (i : ManualInsn) → HasRanges i → list_all is_inline (insn_text i) ≡ true
-insn_inline (Chip i) h = chip_inline i h
-insn_inline (Other i) h = other_inline i h
+insn_inline i h = grind (arith, chip_inline, other_inline)

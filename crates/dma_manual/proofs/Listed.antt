@@ -1,14 +1,14 @@
 -- What a program is disassembled to assembles to its bytes, line by line.
 use Rattle.std.proofs.Common.{◌≡◌, ℕ, ◌+◌, ◌-◌, ◌%◌, ◌^◌, ◌<◌, ◌≤◌, ◌⊎◌, Bool, true, false, ◌&&◌, ◌==◌, List, [], ◌∷◌, ◌++◌, length, map, take, drop, min}
-use Rattle.std.proofs.Common.{replicate, zero, suc, refl, sym, ap, ◌∙◌, subst, Option, Some, None, Ok, cond, eqb, nat_le, arith, codes, decimal, append_assoc}
+use Rattle.std.proofs.Common.{replicate, zero, suc, refl, sym, ap, ◌∙◌, subst, Option, Some, None, Ok, cond, nat_le, arith, codes, decimal, append_assoc}
 use Rattle.std.proofs.Common.{append-nil, length-append, take_at, inl, inr}
 use Rattle.std.specs.{List.list_all, List.list_any, Option.option_map}
 use Rattle.std.proofs.lemmas.Bool.{and_parts, and_from, le-leb, lt-ltb, leb-true, eqb-true}
 use Rattle.std.proofs.lemmas.List.{map-append}
 use Rattle.dma_text.specs.{Digits.hex_digits, Digits.spaced_bytes, Lines.text_lines}
 use Rattle.dma_insn.specs.{AssemblyText.most_program_bytes, declared.insn.Counter.Counter, declared.insn.Counter.TheVariants.Lc0}
-use Rattle.dma_insn.specs.{declared.insn.Counter.TheVariants.Lc1, declared.chip.ChipInsn.TheVariants.Lp, declared.chip.ChipInsn.TheVariants.LpEnd}
-use Rattle.dma_manual.specs.Listing.{Ending, follow, stop, blanks_behind, follow_words, is_executed, jump_of, label_behind, label_name, label_text, line_text}
+use Rattle.dma_insn.specs.{declared.chip.ChipInsn.TheVariants.LpEnd}
+use Rattle.dma_manual.specs.Listing.{Ending, blanks_behind, is_executed, jump_of, label_behind, label_name, label_text, line_text}
 use Rattle.dma_manual.specs.Listing.{listed, mark, more_labels, rest_text, statement_text, target_of, target_text}
 use Rattle.dma_manual.specs.{declared.insns.ManualInsn.ManualInsn, declared.insns.ManualInsn.TheVariants.Chip, declared.insns.ManualInsn.TheVariants.Other}
 use Rattle.dma_manual.specs.{declared.insns.OtherInsn.TheVariants.LpEndIf, declared.insns.Request.Request, declared.insns.Request.TheVariants.Single}
@@ -19,7 +19,7 @@ use Rattle.dma_manual.specs.{declared.statements.Statement.Statement}
 use Rattle.dma_manual.proofs.Cuts.{all_append, code_before, inline_no_feed, is_inline, is_space, lines_feed, no_feed}
 use Rattle.dma_manual.proofs.Growth.{Grown, Quiet, end_grown, insn_grown, lines_step, read_whole, says_line}
 use Rattle.dma_manual.proofs.LabelTexts.{are_labels, label_found, label_inline, label_taken, label_word, label_words, labels_later, named_at}
-use Rattle.dma_manual.proofs.{Numerals.decimal_feed, Numerals.hex_feed, Numerals.plain, Numerals.spaced_feed, Said.Says, Said.end_label, Said.says_end}
+use Rattle.dma_manual.proofs.{Numerals.decimal_feed, Numerals.hex_feed, Numerals.plain, Numerals.plain_four, Numerals.spaced_feed, Said.Says, Said.end_label, Said.says_end}
 use Rattle.dma_insn.proofs.GrammarLaws.{spelling_some}
 use Rattle.dma_manual.proofs.{Said.says_spaced, InsnLaws.decodes, InsnTexts.insn_inline, InsnTexts.insn_says, InsnTexts.statement_of}
 use Rattle.dma_manual.proofs.{ListedLines.AllInRange, ListedLines.joined, ListedLines.lines_of, ListedLines.listed_lines}
@@ -56,71 +56,50 @@ end_text condition c o = end_name condition ++ codes " " ++ counter_name c ++ (c
 end_says : (labels : List Label) (condition : Option Request) (c : Counter) (o : ℕ) (tail : List ℕ) → label_of labels (label_word o) ≡ Some o
     → list_all is_space tail ≡ true
     → Says labels (plain (end_text condition c o) ++ tail) (says.LoopEnd condition (ends.To c o))
-end_says labels None Lc0 o tail found spaces =
-    says_end labels tail spaces None Lc0 (codes "lc0") (label_word o) (ends.To Lc0 o) refl refl refl refl refl (label_words o)
-    (end_label labels Lc0 (label_word o) tail o refl found)
-end_says labels None Lc1 o tail found spaces =
-    says_end labels tail spaces None Lc1 (codes "lc1") (label_word o) (ends.To Lc1 o) refl refl refl refl refl (label_words o)
-    (end_label labels Lc1 (label_word o) tail o refl found)
-end_says labels (Some Single) Lc0 o tail found spaces =
-    says_end labels tail spaces (Some Single) Lc0 (codes "lc0") (label_word o) (ends.To Lc0 o) refl refl refl refl refl (label_words o)
-    (end_label labels Lc0 (label_word o) tail o refl found)
-end_says labels (Some Single) Lc1 o tail found spaces =
-    says_end labels tail spaces (Some Single) Lc1 (codes "lc1") (label_word o) (ends.To Lc1 o) refl refl refl refl refl (label_words o)
-    (end_label labels Lc1 (label_word o) tail o refl found)
-end_says labels (Some Burst) Lc0 o tail found spaces =
-    says_end labels tail spaces (Some Burst) Lc0 (codes "lc0") (label_word o) (ends.To Lc0 o) refl refl refl refl refl (label_words o)
-    (end_label labels Lc0 (label_word o) tail o refl found)
-end_says labels (Some Burst) Lc1 o tail found spaces =
-    says_end labels tail spaces (Some Burst) Lc1 (codes "lc1") (label_word o) (ends.To Lc1 o) refl refl refl refl refl (label_words o)
-    (end_label labels Lc1 (label_word o) tail o refl found)
+end_says labels condition c o tail found spaces =
+    subst (λ (l : List ℕ). Says labels l (says.LoopEnd condition (ends.To c o)))
+    (sym (plain_four (end_name condition) (codes " ") (counter_name c) (codes ", " ++ label_name o) tail))
+    (says_end labels tail spaces condition c (label_word o) (ends.To c o) refl (label_words o) (end_label labels c (label_word o) tail o refl found))
 
 end_inline : (condition : Option Request) (c : Counter) (o : ℕ) → list_all is_inline (end_text condition c o) ≡ true
 end_inline None Lc0 o = label_inline o
-end_inline None Lc1 o = label_inline o
 end_inline (Some Single) Lc0 o = label_inline o
-end_inline (Some Single) Lc1 o = label_inline o
 end_inline (Some Burst) Lc0 o = label_inline o
-end_inline (Some Burst) Lc1 o = label_inline o
+end_inline _ _ o = label_inline o
 
 jump_to : (loops : Loops) (c : Counter) (here start back : ℕ) (place : Place) → start ≤ here → here - start ≡ back → back ≤ 255
     → jump_from loops here (ends.To c start) place ≡ Ok (Counted c, back)
 jump_to loops c here start back place before is small = rw (is, le-leb start here before, le-leb back 255 small) refl
 
-end_said : (r : Read) (labels : List ℕ) (o : ℕ) (condition : Option Request) (c : Counter) (b : ℕ) → IsAt r labels o → b < 256 → b ≤ o
-    → list_any (λ l. l == (o - b)) labels ≡ true
-    → o < 65536 → length r.code + length (spelling (end_of (Counted c) condition b)) ≤ most_program_bytes
-    → IsSaid r (end_of (Counted c) condition b) (end_text condition c (o - b))
-end_said r labels o condition c b at small within any below fits =
-    let found : label_of r.labels (label_word (o - b)) ≡ Some (o - b) =
-    ap (λ (l : List Label). label_of l (label_word (o - b))) at.labels_are ∙ label_found (o - b) o labels (omega arith) at.before any in
-    let here = at.here in
-    record {
-      statement = says.LoopEnd condition (ends.To c (o - b));
-      says = λ tail spaces. end_says r.labels condition c (o - b) tail found spaces;
-      inline = end_inline condition c (o - b);
-      grown = λ place. end_grown r c condition b (ends.To c (o - b)) place
-          (jump_to r.loops c (length r.code) (o - b) b place (omega arith) (omega arith) (omega arith)) fits at.quiet;
-    }
+-- a DMALPEND that ends a loop with a counter
+module _ (r : Read) (labels : List ℕ) (o : ℕ) (condition : Option Request) (c : Counter) (b : ℕ) (at : IsAt r labels o) (small : b < 256) (below : o < 65536)
+    (fits : length r.code + length (spelling (end_of (Counted c) condition b)) ≤ most_program_bytes) where
+  end_said : b ≤ o → list_any (λ l. l == (o - b)) labels ≡ true → IsSaid r (end_of (Counted c) condition b) (end_text condition c (o - b))
+  end_said within any =
+      let found : label_of r.labels (label_word (o - b)) ≡ Some (o - b) = grind (arith, label_found) in
+      let here = at.here in
+      record {
+        statement = says.LoopEnd condition (ends.To c (o - b));
+        says = λ tail spaces. end_says r.labels condition c (o - b) tail found spaces;
+        inline = end_inline condition c (o - b);
+        grown = λ place. end_grown r c condition b (ends.To c (o - b)) place
+            (jump_to r.loops c (length r.code) (o - b) b place (omega arith) (omega arith) (omega arith)) fits at.quiet;
+      }
 
--- an instruction as its line has it
-end_by : (r : Read) (labels : List ℕ) (o : ℕ) (condition : Option Request) (c : Counter) (b : ℕ) (t u : Bool) → nat_le b o ≡ t
-    → list_any (λ l. l == (o - b)) labels ≡ u → IsAt r labels o
-    → HasRanges (end_of (Counted c) condition b) → b < 256 → o < 65536 → length r.code + length (spelling (end_of (Counted c) condition b)) ≤ most_program_bytes
-    → IsSaid r (end_of (Counted c) condition b)
-    (statement_text (option_map (λ label. record { condition = condition; counter = c; label = label }) (cond (t && u) (Some (o - b)) None))
-    (end_of (Counted c) condition b))
-end_by r labels o condition c b true true within any at h small below fits = end_said r labels o condition c b at small (leb-true b o within) any below fits
-end_by r labels o condition c b true false within any at h small below fits = text_said r (end_of (Counted c) condition b) h fits at.quiet
-end_by r labels o condition c b false u within any at h small below fits = text_said r (end_of (Counted c) condition b) h fits at.quiet
+  -- as its line has it
+  end_by : (t u : Bool) → nat_le b o ≡ t → list_any (λ l. l == (o - b)) labels ≡ u → HasRanges (end_of (Counted c) condition b)
+      → IsSaid r (end_of (Counted c) condition b)
+      (statement_text (option_map (λ label. record { condition = condition; counter = c; label = label }) (cond (t && u) (Some (o - b)) None))
+      (end_of (Counted c) condition b))
+  end_by t u h h2 h3 = grind (arith, end_said, leb-true, text_said)
 
 insn_said : (r : Read) (labels : List ℕ) (o : ℕ) (i : ManualInsn) → IsAt r labels o → HasRanges i → o < 65536
     → length r.code + length (spelling i) ≤ most_program_bytes
     → IsSaid r i (statement_text (jump_of labels o i) i)
 insn_said r labels o (Chip (LpEnd c b)) at h below fits =
-    end_by r labels o None c b (nat_le b o) (list_any (λ l. l == (o - b)) labels) refl refl at h h below fits
+    end_by r labels o None c b at h below fits (nat_le b o) (list_any (λ l. l == (o - b)) labels) refl refl h
 insn_said r labels o (Other (LpEndIf q c b)) at h below fits =
-    end_by r labels o (Some q) c b (nat_le b o) (list_any (λ l. l == (o - b)) labels) refl refl at h h below fits
+    end_by r labels o (Some q) c b at h below fits (nat_le b o) (list_any (λ l. l == (o - b)) labels) refl refl h
 insn_said r labels o i at h below fits = text_said r i h fits at.quiet
 
 -- the spaces behind a text
@@ -161,15 +140,12 @@ front_says labels text s h =
     let gap = gap_behind (length (codes "    " ++ text)) in
     let tail = plain gap in
     let split : plain (text ++ gap) ≡ plain text ++ tail = map-append plain_byte text gap in
-    let said : Says labels (plain (text ++ gap)) s =
-    subst (λ (l : List ℕ). Says labels l s) (sym split) (h tail (spaces_plain gap (gap_is (length (codes "    " ++ text))))) in
+    let said : Says labels (plain (text ++ gap)) s = grind (arith, spaces_plain, gap_is) in
     says_spaced labels (32 ∷ 32 ∷ 32 ∷ plain (text ++ gap)) s (says_spaced labels (32 ∷ 32 ∷ plain (text ++ gap)) s
     (says_spaced labels (32 ∷ plain (text ++ gap)) s (says_spaced labels (plain (text ++ gap)) s said)))
 
 front_inline : (text : List ℕ) → list_all is_inline text ≡ true → list_all is_inline (code_front text) ≡ true
-front_inline text h =
-    all_append is_inline (codes "    " ++ text) (gap_behind (length (codes "    " ++ text))) (all_append is_inline (codes "    ") text refl h)
-    (spaces_inline (gap_behind (length (codes "    " ++ text))) (gap_is (length (codes "    " ++ text))))
+front_inline text h = grind (arith, all_append, spaces_inline, gap_is)
 
 -- The line of an instruction adds its bytes.
 abbrev words_of : ℕ → List ℕ → ℕ → ManualInsn → List ℕ
@@ -179,18 +155,13 @@ abbrev comment_of : ℕ → List ℕ → ℕ → ManualInsn → List ℕ
 comment_of at labels o i = 32 ∷ (hex_digits ((at + o) % 2 ^ 32) ++ 32 ∷ words_of at labels o i)
 
 target_feed : (target : Option ℕ) → list_all no_feed (target_text target) ≡ true
-target_feed None = refl
-target_feed (Some address) = all_append no_feed (codes ", jumps to 0x") (hex_digits address) refl (hex_feed address)
+target_feed target = grind (arith, all_append, hex_feed)
 
 mark_feed : (executed : Bool) → list_all no_feed (mark executed) ≡ true
-mark_feed true = refl
-mark_feed false = refl
+mark_feed executed = grind (arith)
 
 comment_feed : (at : ℕ) (labels : List ℕ) (o : ℕ) (i : ManualInsn) → list_all no_feed (comment_of at labels o i) ≡ true
-comment_feed at labels o i =
-    all_append no_feed (hex_digits ((at + o) % 2 ^ 32)) (32 ∷ words_of at labels o i) (hex_feed ((at + o) % 2 ^ 32))
-    (all_append no_feed (spaced_bytes (spelling i)) (target_text (target_of labels at o i) ++ mark (is_executed i)) (spaced_feed (spelling i))
-    (all_append no_feed (target_text (target_of labels at o i)) (mark (is_executed i)) (target_feed (target_of labels at o i)) (mark_feed (is_executed i))))
+comment_feed at labels o i = grind (arith, all_append, hex_feed, spaced_feed, target_feed, mark_feed)
 
 record ReadsLine (r : Read) (n : ℕ) (text more bytes : List ℕ) : Type 0 where
   next : Read
@@ -233,8 +204,7 @@ record ReadsLabel (r : Read) (n : ℕ) (labels : List ℕ) (o : ℕ) (text more 
   at : IsAt next labels o
 
 label_behind_by : (i : ManualInsn) (o : ℕ) → o < 65536 → (label_behind i o ≡ None) ⊎ (label_behind i o ≡ Some o)
-label_behind_by (Chip (Lp c n)) o small = inr (rw (lt-ltb o 65536 small) refl)
-label_behind_by _ o small = inl refl
+label_behind_by i o h = grind (arith, lt-ltb)
 
 label_read : (r : Read) (n : ℕ) (labels : List ℕ) (p o : ℕ) (more : List ℕ) (behind : Option ℕ) → length r.code ≡ o → r.labels ≡ map named_at labels
     → are_labels p labels ≡ true
@@ -293,9 +263,7 @@ lines_read (i ∷ insns) r n at labels o more range here fits =
     (omega arith)
     (label_behind_by i end (omega arith)) in
     let after = lines_read insns label.next label.number at (more_labels labels behind) end more range.1 label.at (omega arith) in
-    let split : (line_text at labels o i ++ (label_text behind ++ rest)) ++ more ≡ line_text at labels o i ++ (label_text behind ++ (rest ++ more)) =
-    append_assoc (line_text at labels o i) (label_text behind ++ rest) more
-    ∙ ap (λ (l : List ℕ). line_text at labels o i ++ l) (append_assoc (label_text behind) rest more) in
+    let split : (line_text at labels o i ++ (label_text behind ++ rest)) ++ more ≡ line_text at labels o i ++ (label_text behind ++ (rest ++ more)) = grind (arith, append_assoc) in
     record {
       next = after.next;
       number = after.number;
@@ -321,13 +289,11 @@ last_read r n count words plain_words false =
     ∙ lines_step r r n (59 ∷ comment) [] (ap (λ (l : List ℕ). take_line r (n + 1) (plain l)) (code_before [] comment refl) ∙ no_line r (n + 1))
 
 follow_feed : (one : Bool) → list_all no_feed (cond one (codes " byte follows") (codes " bytes follow")) ≡ true
-follow_feed true = refl
-follow_feed false = refl
+follow_feed one = grind (arith)
 
 rest_read : (r : Read) (n : ℕ) (ending : Ending) → take_lines r n (text_lines (rest_text ending)) ≡ Ok r
 unfolding take_lines
-rest_read r n (follow count) = last_read r n count (follow_words count) (follow_feed (eqb count 1)) (eqb count 0)
-rest_read r n (stop o fault bytes) = refl
+rest_read r n ending = grind (arith, last_read, follow_feed)
 
 pub listings_assemble : ListingsAssemble
 listings_assemble at program bytes fits =
@@ -336,8 +302,6 @@ listings_assemble at program bytes fits =
     let size = h.end_is in
     let start : IsAt empty [] 0 = record { here = refl; labels_are = refl; before = refl; quiet = (refl, refl, refl) } in
     let read = lines_read h.insns empty 0 at [] 0 (rest_text l.ending) h.in_range start (omega arith) in
-    let taken : take_lines empty 0 (text_lines (l.text ++ rest_text l.ending)) ≡ Ok read.next =
-    ap (λ (t : List ℕ). take_lines empty 0 (text_lines (t ++ rest_text l.ending))) h.text_is ∙ read.is ∙ rest_read read.next read.number l.ending in
-    let front : take (shown program l.ending) program ≡ joined h.insns =
-    ap (take (shown program l.ending)) h.bytes_are ∙ take_at (joined h.insns) h.rest (shown program l.ending) (omega arith) in
+    let taken : take_lines empty 0 (text_lines (l.text ++ rest_text l.ending)) ≡ Ok read.next = grind (arith, rest_read) in
+    let front : take (shown program l.ending) program ≡ joined h.insns = grind (arith, take_at) in
     read_whole (l.text ++ rest_text l.ending) read.next taken read.quiet ∙ ap (λ (b : List ℕ). Ok b) (read.code ∙ sym front)

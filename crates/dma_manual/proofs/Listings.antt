@@ -10,9 +10,7 @@ listed_from_skipped : (at : ℕ) (labels : List ℕ) (o k : ℕ) (xs : List ℕ)
     → listed_from at labels o k xs ≡ listed_from at labels (o + k) 0 (drop k xs)
 listed_from_skipped at labels o zero xs h = let e : o ≡ o + 0 = omega arith in ap (λ p. listed_from at labels p 0 xs) e
 listed_from_skipped at labels o (suc k) [] h = absurd (omega arith)
-listed_from_skipped at labels o (suc k) (x ∷ xs) h =
-    let e : o + 1 + k ≡ o + suc k = omega arith in
-    listed_from_skipped at labels (o + 1) k xs (omega arith) ∙ ap (λ p. listed_from at labels p 0 (drop k xs)) e
+listed_from_skipped at labels o (suc k) (x ∷ xs) h = grind (arith, listed_from_skipped at labels (o + 1) k xs (omega arith))
 
 -- the listing of bytes that begin with an instruction of n bytes
 abbrev pub listed_first : ℕ → List ℕ → ℕ → ManualInsn → ℕ → List ℕ → Listing
@@ -25,59 +23,50 @@ pub listed_from_first : (at : ℕ) (labels : List ℕ) (o n : ℕ) (xs : List �
     → listed_from at labels o 0 xs ≡ listed_first at labels o i n xs
 listed_from_first at labels o zero xs i is some within = absurd (omega arith)
 listed_from_first at labels o (suc n) [] i is some within = absurd (omega arith)
-listed_from_first at labels o (suc n) (x ∷ xs) i is some within =
-    let less : suc n - 1 ≡ n = omega arith in
-    let e : o + 1 + n ≡ o + suc n = omega arith in
-    let more = more_labels labels (label_behind i (o + suc n)) in
-    let rest : listed_from at more (o + 1) (suc n - 1) xs ≡ listed_from at more (o + suc n) 0 (drop n xs) =
-    ap (λ k. listed_from at more (o + 1) k xs) less ∙ listed_from_skipped at more (o + 1) n xs (omega arith)
-    ∙ ap (λ p. listed_from at more p 0 (drop n xs)) e in
-    rw is (ap (λ (l : Listing). with_text (line_text at labels o i)
-    (cond (is_end i) (record { text = []; ending = follow (length (x ∷ xs) - suc n) }) (with_text (label_text (label_behind i (o + suc n))) l))) rest)
+listed_from_first at labels o (suc n) (x ∷ xs) i is some within = grind (arith, listed_from_skipped)
 
--- the lines of an instruction that is not DMAEND
-pub listed_step : (at : ℕ) (labels : List ℕ) (o n : ℕ) (xs : List ℕ) (i : ManualInsn) (out one two after more : List ℕ)
-    → decoded xs ≡ Ok (i, n) → 0 < n → n ≤ length xs → is_end i ≡ false → (shown : List ℕ) → shown ≡ labels → one ≡ out ++ line_text at shown o i
-    → two ≡ one ++ label_text (label_behind i (o + n)) → more ≡ more_labels labels (label_behind i (o + n)) → after ≡ drop n xs
-    → (two ++ (listed_from at more (o + n) 0 after).text ≡ out ++ (listed_from at labels o 0 xs).text)
-    × ((listed_from at more (o + n) 0 after).ending ≡ (listed_from at labels o 0 xs).ending)
-listed_step at labels o n xs i out one two after more read some within goes shown also e f g h =
-    let line = line_text at labels o i in
-    let label = label_text (label_behind i (o + n)) in
-    let rest = listed_from at (more_labels labels (label_behind i (o + n))) (o + n) 0 (drop n xs) in
-    let whole : listed_from at labels o 0 xs ≡ with_text line (with_text label rest) = rw (listed_from_first at labels o n xs i read some within, goes) refl in
-    let same : listed_from at more (o + n) 0 after ≡ rest = ap (λ (m : List ℕ). listed_from at m (o + n) 0 after) g
-    ∙ ap (λ (a : List ℕ). listed_from at (more_labels labels (label_behind i (o + n))) (o + n) 0 a) h in
-    let made : two ≡ (out ++ line) ++ label = f ∙ ap (λ (l : List ℕ). l ++ label) (e ∙ ap (λ (ls : List ℕ). out ++ line_text at ls o i) also) in
-    let joined : ((out ++ line) ++ label) ++ rest.text ≡ out ++ (line ++ (label ++ rest.text)) = append_assoc (out ++ line) label rest.text
-    ∙ append_assoc out line (label ++ rest.text) in (
-      ap (λ (l : Listing). two ++ l.text) same ∙ ap (λ (l : List ℕ). l ++ rest.text) made ∙ joined ∙ ap (λ (l : Listing). out ++ l.text) (sym whole),
-      ap (λ (l : Listing). l.ending) same ∙ ap (λ (l : Listing). l.ending) (sym whole),
-    )
+-- the lines of an instruction, printed with these labels
+module _ (at : ℕ) (labels : List ℕ) (o n : ℕ) (xs : List ℕ) (i : ManualInsn) (out one shown : List ℕ) (read : decoded xs ≡ Ok (i, n)) (some : 0 < n)
+    (within : n ≤ length xs) (also : shown ≡ labels) (e : one ≡ out ++ line_text at shown o i) where
+  -- which is not DMAEND
+  pub listed_step : (two after more : List ℕ) → is_end i ≡ false → two ≡ one ++ label_text (label_behind i (o + n))
+      → more ≡ more_labels labels (label_behind i (o + n)) → after ≡ drop n xs
+      → (two ++ (listed_from at more (o + n) 0 after).text ≡ out ++ (listed_from at labels o 0 xs).text)
+      × ((listed_from at more (o + n) 0 after).ending ≡ (listed_from at labels o 0 xs).ending)
+  listed_step two after more goes f g h =
+      let line = line_text at labels o i in
+      let label = label_text (label_behind i (o + n)) in
+      let rest = listed_from at (more_labels labels (label_behind i (o + n))) (o + n) 0 (drop n xs) in
+      let whole : listed_from at labels o 0 xs ≡ with_text line (with_text label rest) =
+      rw (listed_from_first at labels o n xs i read some within, goes) refl in
+      let same : listed_from at more (o + n) 0 after ≡ rest = ap (λ (m : List ℕ). listed_from at m (o + n) 0 after) g
+      ∙ ap (λ (a : List ℕ). listed_from at (more_labels labels (label_behind i (o + n))) (o + n) 0 a) h in
+      let made : two ≡ (out ++ line) ++ label = f ∙ ap (λ (l : List ℕ). l ++ label) (e ∙ ap (λ (ls : List ℕ). out ++ line_text at ls o i) also) in
+      let joined : ((out ++ line) ++ label) ++ rest.text ≡ out ++ (line ++ (label ++ rest.text)) = append_assoc (out ++ line) label rest.text
+      ∙ append_assoc out line (label ++ rest.text) in (
+        ap (λ (l : Listing). two ++ l.text) same ∙ ap (λ (l : List ℕ). l ++ rest.text) made ∙ joined ∙ ap (λ (l : Listing). out ++ l.text) (sym whole),
+        ap (λ (l : Listing). l.ending) same ∙ ap (λ (l : Listing). l.ending) (sym whole),
+      )
 
--- the lines of DMAEND, the last instruction
-pub listed_last : (at : ℕ) (labels : List ℕ) (o n : ℕ) (xs : List ℕ) (i : ManualInsn) (out one two start : List ℕ) (l : Listing) (left : ℕ)
-    → decoded xs ≡ Ok (i, n) → 0 < n → n ≤ length xs → is_end i ≡ true → (shown : List ℕ) → shown ≡ labels → one ≡ out ++ line_text at shown o i
-    → left ≡ length xs - n → two ≡ one ++ rest_text (follow left) → out ++ (listed_from at labels o 0 xs).text ≡ start ++ l.text
-    → (listed_from at labels o 0 xs).ending ≡ l.ending → two ≡ start ++ (l.text ++ rest_text l.ending)
-listed_last at labels o n xs i out one two start l left read some within ends shown also e size f text ending =
-    let line = line_text at labels o i in
-    let rest = listed_from at labels o 0 xs in
-    let whole : rest ≡ with_text line (record { text = []; ending = follow (length xs - n) }) =
-    rw (listed_from_first at labels o n xs i read some within, ends) refl in
-    let text_is : rest.text ≡ line = ap (λ (m : Listing). m.text) whole ∙ append-nil line in
-    let ending_is : rest.ending ≡ follow left = ap (λ (m : Listing). m.ending) whole ∙ ap follow (sym size) in
-    f ∙ ap (λ (x : List ℕ). x ++ rest_text (follow left)) (e ∙ ap (λ (ls : List ℕ). out ++ line_text at ls o i) also)
-    ∙ ap (λ (x : List ℕ). (out ++ x) ++ rest_text (follow left)) (sym text_is) ∙ ap (λ (m : Ending). (out ++ rest.text) ++ rest_text m) (sym ending_is)
-    ∙ ap (λ (x : List ℕ). x ++ rest_text rest.ending) text ∙ ap (λ (m : Ending). (start ++ l.text) ++ rest_text m) ending
-    ∙ append_assoc start l.text (rest_text l.ending)
+  -- which is DMAEND, the last one
+  pub listed_last : (two start : List ℕ) (l : Listing) (left : ℕ) → is_end i ≡ true → left ≡ length xs - n → two ≡ one ++ rest_text (follow left)
+      → out ++ (listed_from at labels o 0 xs).text ≡ start ++ l.text
+      → (listed_from at labels o 0 xs).ending ≡ l.ending → two ≡ start ++ (l.text ++ rest_text l.ending)
+  listed_last two start l left ends size f text ending =
+      let line = line_text at labels o i in
+      let rest = listed_from at labels o 0 xs in
+      let whole : rest ≡ with_text line (record { text = []; ending = follow (length xs - n) }) = grind (arith, listed_from_first) in
+      let text_is : rest.text ≡ line = ap (λ (m : Listing). m.text) whole ∙ append-nil line in
+      let ending_is : rest.ending ≡ follow left = ap (λ (m : Listing). m.ending) whole ∙ ap follow (sym size) in
+      f ∙ ap (λ (x : List ℕ). x ++ rest_text (follow left)) (e ∙ ap (λ (ls : List ℕ). out ++ line_text at ls o i) also)
+      ∙ ap (λ (x : List ℕ). (out ++ x) ++ rest_text (follow left)) (sym text_is) ∙ ap (λ (m : Ending). (out ++ rest.text) ++ rest_text m) (sym ending_is)
+      ∙ ap (λ (x : List ℕ). x ++ rest_text rest.ending) text ∙ ap (λ (m : Ending). (start ++ l.text) ++ rest_text m) ending
+      ∙ append_assoc start l.text (rest_text l.ending)
 
 -- a line is its text and a comment behind it
 joined : (old text two : List ℕ) (width : ℕ) (comment : ℕ → List ℕ) → two ≡ old ++ text → width ≡ length two - length old
     → two ++ comment width ≡ old ++ (text ++ comment (length text))
-joined old text two width comment e w =
-    let same : width ≡ length text = omega (arith, ap length e, length-append old text) in
-    ap (λ (n : ℕ). two ++ comment n) same ∙ ap (λ (l : List ℕ). l ++ comment (length text)) e ∙ append_assoc old text (comment (length text))
+joined old text two width comment e w = grind (arith, length-append, append_assoc)
 
 pub line_joined : {E : Type 0} (r : Result (Unit {0}) E) (old text two new : List ℕ) (width : ℕ) (comment : ℕ → List ℕ) → two ≡ old ++ text
     → width ≡ length two - length old → OnOk r (new ≡ two ++ comment width) → OnOk r (new ≡ old ++ (text ++ comment (length text)))

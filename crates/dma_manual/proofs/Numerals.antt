@@ -1,5 +1,5 @@
 -- Numbers in decimal and hexadecimal digits, which the assembler reads back.
-use Rattle.std.proofs.Common.{◌≡◌, ℕ, ◌+◌, ◌*◌, ◌/◌, ◌%◌, ◌^◌, ◌<◌, ◌≤◌, Bool, true, false, ◌&&◌, List, [], ◌∷◌, ◌++◌, map, min, nat_lt, zero, suc, refl, sym}
+use Rattle.std.proofs.Common.{◌≡◌, ℕ, ◌+◌, ◌*◌, ◌/◌, ◌%◌, ◌^◌, ◌<◌, ◌≤◌, Bool, true, false, ◌&&◌, List, [], ◌∷◌, ◌++◌, map, nat_lt, zero, suc, refl, sym}
 use Rattle.std.proofs.Common.{ap, ◌∙◌, Some, eqb, cond, arith, decimal, append_assoc, inl, inr}
 use Rattle.std.proofs.lemmas.List.{map-append}
 use Rattle.std.proofs.lemmas.Bool.{and_parts, and_from, cases_lt, cond_both, lt-leb, ne_eqb}
@@ -14,6 +14,9 @@ plain bytes = map plain_byte bytes
 
 pub plain_append_law : (xs ys tail : List ℕ) → plain (xs ++ ys) ++ tail ≡ plain xs ++ (plain ys ++ tail)
 plain_append_law xs ys tail = ap (λ (l : List ℕ). l ++ tail) (map-append plain_byte xs ys) ∙ append_assoc (plain xs) (plain ys) tail
+
+pub plain_four : (a b c d tail : List ℕ) → plain (a ++ b ++ c ++ d) ++ tail ≡ plain a ++ (plain b ++ (plain c ++ (plain d ++ tail)))
+plain_four a b c d tail = simp (map-append, append_assoc)
 
 -- what a function gives at each number below n
 abbrev pub each : {A : Type 0} → ℕ → (ℕ → A) → List A
@@ -83,9 +86,7 @@ glyph_word d small = and_parts (is_word_byte (glyph d)) (is_inline (digit_glyph 
 -- one more digit
 hex_more : (value d next : ℕ) (rest : List ℕ) → d < 16 → value * 16 + d ≡ next → next ≤ 2 ^ 32
     → digits_from 16 value (glyph d ∷ rest) ≡ digits_from 16 next rest
-hex_more value d next rest small e most =
-    let capped : min (value * 16 + d) (2 ^ 32) ≡ next = omega arith in
-    rw (glyph_value d small, lt-leb 16 d small, capped) refl
+hex_more value d next rest small e most = grind (arith, glyph_value, lt-leb)
 
 pub hex_read : (v : ℕ) → v < 2 ^ 32 → number_of (48 ∷ 120 ∷ plain (hex_digits v)) ≡ Some v
 hex_read v small =
@@ -143,10 +144,7 @@ later_feed : (b : ℕ) → 10 < b → no_feed b ≡ true
 later_feed b more = rw (ne_eqb b 10 (λ z. omega arith)) refl
 
 glyph_feed : (upper : Bool) (d : ℕ) → no_feed (digit_glyph upper d) ≡ true
-glyph_feed true d = cond_both (nat_lt d 10) (48 + d) (55 + d) (λ b. no_feed b ≡ true) (λ _. later_feed (48 + d) (omega arith))
-    (λ _. later_feed (55 + d) (omega arith))
-glyph_feed false d = cond_both (nat_lt d 10) (48 + d) (87 + d) (λ b. no_feed b ≡ true) (λ _. later_feed (48 + d) (omega arith))
-    (λ _. later_feed (87 + d) (omega arith))
+glyph_feed upper d = grind (arith, cond_both, nat_lt, later_feed)
 
 digits_feed : (k n : ℕ) (bytes : List ℕ) → list_all no_feed bytes ≡ true → list_all no_feed (digits_onto k 10 false n bytes) ≡ true
 digits_feed zero n bytes h = h

@@ -1,48 +1,30 @@
 -- The text of each instruction assembles to its bytes.
-use Rattle.std.proofs.Common.{◌≡◌, ℕ, ◌≤◌, true, false, List, [], ◌∷◌, length, refl, ap, ◌∙◌, subst, Ok, arith, append-nil}
+use Rattle.std.proofs.Common.{◌≡◌, ℕ, ◌≤◌, true, List, [], ◌∷◌, length, refl, ap, ◌∙◌, subst, Ok, arith, append-nil}
 use Rattle.std.specs.List.{list_all}
-use Rattle.std.proofs.lemmas.Bool.{false≢true}
 use Rattle.dma_text.specs.Lines.{text_lines}
-use Rattle.dma_insn.specs.declared.chip.ChipInsn.TheVariants.{Mov, End, Wfe, AddHalfword}
-use Rattle.dma_insn.specs.{AssemblyText.most_program_bytes, declared.insn.Reg.TheVariants.Sar, declared.chip.ChipInsn.ChipInsn}
-use Rattle.dma_manual.specs.declared.insns.OtherInsn.TheVariants.{Kill, LdIf, StIf, OfPeripheral, LpEndIf, LoopAgainIf}
+use Rattle.dma_insn.specs.{AssemblyText.most_program_bytes, declared.chip.ChipInsn.ChipInsn}
 use Rattle.dma_manual.specs.Assembled.{empty, place_of, take_line, take_lines}
-use Rattle.dma_manual.specs.{declared.insns.ManualInsn.ManualInsn, declared.insns.ManualInsn.TheVariants.Chip, declared.insns.ManualInsn.TheVariants.Other}
-use Rattle.dma_manual.specs.{declared.insns.OtherInsn.OtherInsn, declared.insns.Request.TheVariants.Single, Insns.spelling, ManualText.insn_text}
+use Rattle.dma_manual.specs.{declared.insns.ManualInsn.ManualInsn}
+use Rattle.dma_manual.specs.{declared.insns.OtherInsn.OtherInsn, Insns.spelling, ManualText.insn_text}
 use Rattle.dma_manual.specs.{ManualText.manual_text, ManualText.other_text, Words.code_of, Words.next_of, Laws.TextsAssemble}
 use Rattle.dma_manual.proofs.Cuts.{code_all, has_bytes, inline_no_feed, line_alone, no_feed}
 use Rattle.dma_manual.proofs.Growth.{insn_grown, lines_done, lines_step, read_whole, says_line}
 use Rattle.dma_manual.proofs.{Numerals.plain, Said.Says, InsnTexts.insn_inline, InsnTexts.insn_says, InsnTexts.statement_of}
-use Rattle.dma_manual.specs.declared.insns.Action.TheVariants as action
 
 one_line : (text : List ℕ) → has_bytes text ≡ true → list_all no_feed text ≡ true → text_lines text ≡ text ∷ []
-one_line [] some h = absurd (false≢true some)
-one_line (b ∷ text) some h = line_alone b text h
+one_line text h h2 = grind (arith, line_alone)
 
 chip_some : (i : ChipInsn) → has_bytes (manual_text i) ≡ true
-chip_some (Wfe e false) = refl
-chip_some (Mov Sar v) = refl
-chip_some (AddHalfword a m false) = refl
-chip_some (AddHalfword a m true) = refl
-chip_some _ = refl
+chip_some i = grind (arith)
 
 other_some : (i : OtherInsn) → has_bytes (other_text i) ≡ true
-other_some (LdIf Single) = refl
-other_some (StIf Single) = refl
-other_some (OfPeripheral (action.Ld Single) p) = refl
-other_some (OfPeripheral (action.St Single) p) = refl
-other_some (LpEndIf Single c b) = refl
-other_some (LoopAgainIf Single b) = refl
-other_some _ = refl
+other_some i = grind (arith)
 
 text_some : (i : ManualInsn) → has_bytes (insn_text i) ≡ true
-text_some (Chip i) = chip_some i
-text_some (Other i) = other_some i
+text_some i = grind (arith, chip_some, other_some)
 
 spelling_le : (i : ManualInsn) → length (spelling i) ≤ most_program_bytes
-spelling_le (Chip End) = omega arith
-spelling_le (Other Kill) = omega arith
-spelling_le _ = omega arith
+spelling_le i = grind (arith)
 
 pub texts_assemble : TextsAssemble
 texts_assemble i h =

@@ -8,7 +8,7 @@ use Rattle.dma_manual.specs.{declared.insns.Action.Action, declared.insns.Awaite
 use Rattle.dma_manual.specs.{declared.insns.OtherInsn.TheVariants.OfPeripheral, declared.insns.OtherInsn.TheVariants.Go, Words.is_word_byte, Words.next_of}
 use Rattle.dma_manual.specs.{Operands.channel_at, Operands.flag_at, Operands.number_of, Operands.peripheral_at, Assembled.label_by}
 use Rattle.dma_manual.proofs.Cuts.{gap_spaces, has_bytes, is_gap, is_space, next_none, next_space, next_word}
-use Rattle.dma_manual.proofs.{Numerals.decimal_read, Numerals.hex_read, Numerals.hex_words, Numerals.plain, Numerals.plain_append_law, Said.Says, Said.named}
+use Rattle.dma_manual.proofs.{Numerals.decimal_read, Numerals.hex_read, Numerals.hex_words, Numerals.plain, Numerals.plain_append_law, Said.Says, Said.flag_of, Said.last_word, Said.named}
 use Rattle.dma_manual.specs.declared.insns.Action.TheVariants as action
 use Rattle.dma_manual.specs.declared.statements.Statement.TheVariants as says
 
@@ -32,14 +32,9 @@ go_of : (ns : Bool) (name rest w b n d : List ℕ) (c a : ℕ) → next_of rest 
     → flag_at (codes "ns") d ≡ Ok ns → go_line name rest ≡ Ok (says.Plain (Other (Go c a ns)))
 go_of ns name rest w b n d c a q r s is small flag = rw (q, r, s, is, le-leb 0 a (omega arith), le-leb a 0xffffffff small, flag) refl
 
-secure_of : (rest tail : List ℕ) → next_of rest ≡ Some (codes "ns", tail) → next_of tail ≡ None → flag_at (codes "ns") rest ≡ Ok true
-secure_of rest tail p q = rw (p, q) refl
-
 -- a channel, an address and what follows it
 go_split : (c a flag tail : List ℕ) → plain ((c ++ codes ", 0x") ++ (a ++ flag)) ++ tail ≡ plain c ++ 32 ∷ 32 ∷ 48 ∷ 120 ∷ (plain a ++ (plain flag ++ tail))
-go_split c a flag tail =
-    plain_append_law (c ++ codes ", 0x") (a ++ flag) tail ∙ ap (λ (l : List ℕ). plain (c ++ codes ", 0x") ++ l) (plain_append_law a flag tail)
-    ∙ plain_append_law c (codes ", 0x") (plain a ++ (plain flag ++ tail))
+go_split c a flag tail = grind (arith, plain_append_law)
 
 -- Each kind of instruction, in front of spaces.
 module _ (labels : List Label) (tail : List ℕ) (spaces : list_all is_space tail ≡ true) where
@@ -69,7 +64,7 @@ module _ (labels : List Label) (tail : List ℕ) (spaces : list_all is_space tai
       (named labels (codes "dmawfp") rest (says.Plain (Other (OfPeripheral (action.Wait awaited) p))) refl refl refl refl
       (await_of awaited (codes "dmawfp") rest w (32 ∷ 32 ∷ last) word tail p (next_space (w ++ 32 ∷ 32 ∷ last) ∙ next_word w (32 ∷ 32 ∷ last) refl r.word refl)
       (peripheral_of (plain (decimal p)) (32 ∷ 32 ∷ last) p r.value small)
-      (next_space (32 ∷ last) ∙ next_space last ∙ next_word word tail some is_word (gap_spaces tail spaces)) is (next_none tail spaces)))
+      (last_word labels tail spaces word some is_word) is (next_none tail spaces)))
 
   go_said : (c a : ℕ) (ns : Bool) (flag : List ℕ) → c ≤ 7 → a < 2 ^ 32 → is_gap (plain flag ++ tail) ≡ true → flag_at (codes "ns") (plain flag ++ tail) ≡ Ok ns
       → Says labels (codes "dmago c" ++ (plain ((decimal c ++ codes ", 0x") ++ (hex_digits a ++ flag)) ++ tail)) (says.Plain (Other (Go c a ns)))
@@ -96,5 +91,4 @@ module _ (labels : List Label) (tail : List ℕ) (spaces : list_all is_space tai
   says_go_secure c a small low =
       let last = codes "ns" ++ tail in
       go_said c a true (codes ", ns") small low refl
-      (secure_of (32 ∷ 32 ∷ last) tail (next_space (32 ∷ last) ∙ next_space last ∙ next_word (codes "ns") tail refl refl (gap_spaces tail spaces))
-      (next_none tail spaces))
+      (flag_of (codes "ns") (32 ∷ 32 ∷ last) tail refl (last_word labels tail spaces (codes "ns") refl refl) (next_none tail spaces))

@@ -1,5 +1,5 @@
 -- Words and lines that are read one after another.
-use Rattle.std.proofs.Common.{◌≡◌, ℕ, ◌+◌, ◌-◌, ◌<◌, List, [], ◌∷◌, length, map, refl, ap, sym, ◌∙◌, arith, zero, suc, Some, None, Result, Ok, Err}
+use Rattle.std.proofs.Common.{◌≡◌, ℕ, ◌+◌, ◌-◌, ◌<◌, List, [], ◌∷◌, length, map, ap, sym, arith, zero, suc, Some, None, Result, Ok, Err}
 use Rattle.dma_text.specs.Lines.{text_lines}
 use Rattle.dma_manual.specs.Fields.{fields_from, next_field, set_field, word_of}
 use Rattle.dma_manual.specs.{Words.code_of, Words.next_of, Words.plain_byte, Operands.fault_at, Assembled.Read, Assembled.take_line, Assembled.take_lines}
@@ -16,53 +16,37 @@ fields_step (suc n) f rest some =
 
 pub fields_none : (n : ℕ) (f : Fields) (rest : List ℕ) (whole : Result ℕ Fault) → 0 < n → fields_from n f rest ≡ whole → next_of rest ≡ None
     → Ok (word_of f) ≡ whole
-fields_none n f rest whole some is none =
-    let step : fields_from n f rest ≡ Ok (word_of f) = rw (fields_step n f rest some, none) refl in
-    sym step ∙ is
+fields_none n f rest whole some is none = grind (arith, fields_step)
 
 pub fields_err : (n : ℕ) (f : Fields) (rest word after : List ℕ) (fault : Fault) (whole : Result ℕ Fault) → 0 < n → fields_from n f rest ≡ whole
     → next_of rest ≡ Some (word, after) → set_field f word after ≡ Err fault → Err fault ≡ whole
-fields_err n f rest word after fault whole some is next set =
-    let step : fields_from n f rest ≡ Err fault = rw (fields_step n f rest some, next, set) refl in
-    sym step ∙ is
+fields_err n f rest word after fault whole some is next set = grind (arith, fields_step)
 
 pub fields_more : (n : ℕ) (f g : Fields) (rest word after : List ℕ) (whole : Result ℕ Fault) → 0 < n → fields_from n f rest ≡ whole
     → next_of rest ≡ Some (word, after) → set_field f word after ≡ Ok g → fields_from (n - 1) g after ≡ whole
-fields_more n f g rest word after whole some is next set =
-    let step : fields_from n f rest ≡ fields_from (n - 1) g after = rw (fields_step n f rest some, next, set) refl in
-    sym step ∙ is
+fields_more n f g rest word after whole some is next set = grind (arith, fields_step)
 
 pub fields_last : (n : ℕ) (f : Fields) (rest : List ℕ) (whole : Result ℕ Fault) → n ≡ 0 → fields_from n f rest ≡ whole → next_of rest ≡ None
     → Ok (word_of f) ≡ whole
 unfolding fields_from
-fields_last n f rest whole zero_n is none =
-    let step : fields_from 0 f rest ≡ Ok (word_of f) = rw none refl in
-    sym step ∙ ap (λ (m : ℕ). fields_from m f rest) (sym zero_n) ∙ is
+fields_last n f rest whole zero_n is none = grind arith
 
 pub fields_extra : (n : ℕ) (f : Fields) (rest word after : List ℕ) (whole : Result ℕ Fault) → n ≡ 0 → fields_from n f rest ≡ whole
     → next_of rest ≡ Some (word, after) → Err (fault_at causes.Extra word after) ≡ whole
 unfolding fields_from
-fields_extra n f rest word after whole zero_n is next =
-    let step : fields_from 0 f rest ≡ Err (fault_at causes.Extra word after) = rw next refl in
-    sym step ∙ ap (λ (m : ℕ). fields_from m f rest) (sym zero_n) ∙ is
+fields_extra n f rest word after whole zero_n is next = grind arith
 
 -- one more line
 pub lines_more : (r new : Read) (n : ℕ) (text line after plain : List ℕ) (whole : Result Read Located) → take_lines r n (text_lines text) ≡ whole
     → text_lines text ≡ line ∷ text_lines after → plain ≡ map plain_byte (code_of line) → take_line r (n + 1) plain ≡ Ok new
     → take_lines new (n + 1) (text_lines after) ≡ whole
 unfolding take_lines
-lines_more r new n text line after plain whole is lines same took =
-    let took' : take_line r (n + 1) (map plain_byte (code_of line)) ≡ Ok new = ap (take_line r (n + 1)) (sym same) ∙ took in
-    let step : take_lines r n (line ∷ text_lines after) ≡ take_lines new (n + 1) (text_lines after) = rw took' refl in
-    sym step ∙ ap (take_lines r n) (sym lines) ∙ is
+lines_more r new n text line after plain whole is lines same took = grind arith
 
 pub lines_err : (r : Read) (n : ℕ) (text line after plain : List ℕ) (fault : Located) (whole : Result Read Located) → take_lines r n (text_lines text) ≡ whole
     → text_lines text ≡ line ∷ text_lines after → plain ≡ map plain_byte (code_of line) → take_line r (n + 1) plain ≡ Err fault → whole ≡ Err fault
 unfolding take_lines
-lines_err r n text line after plain fault whole is lines same took =
-    let took' : take_line r (n + 1) (map plain_byte (code_of line)) ≡ Err fault = ap (take_line r (n + 1)) (sym same) ∙ took in
-    let step : take_lines r n (line ∷ text_lines after) ≡ Err fault = rw took' refl in
-    sym is ∙ ap (take_lines r n) lines ∙ step
+lines_err r n text line after plain fault whole is lines same took = grind arith
 
 pub lines_end : (r : Read) (n : ℕ) (text : List ℕ) (whole : Result Read Located) → take_lines r n (text_lines text) ≡ whole → length text ≡ 0 → whole ≡ Ok r
 unfolding take_lines

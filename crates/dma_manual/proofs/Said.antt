@@ -1,11 +1,11 @@
 -- What the words of a printed line say.
 use Rattle.std.proofs.Common.{◌≡◌, ℕ, ◌^◌, ◌<◌, ◌≤◌, Bool, true, false, List, ◌∷◌, ◌++◌, refl, ap, ◌∙◌, Option, Some, None, Ok, arith, codes, decimal}
-use Rattle.std.specs.{Prelude.nat_eq, List.list_all, List.starts_with}
+use Rattle.std.specs.{Prelude.nat_eq, List.list_all, List.starts_with, Str.bytes_eq}
 use Rattle.std.proofs.lemmas.Bool.{le-leb}
 use Rattle.dma_text.specs.Digits.{hex_digits}
 use Rattle.dma_manual.specs.Operands.{event_at, flag_at, number_of}
-use Rattle.dma_manual.specs.{ManualText.end_name, ManualText.half_digits, declared.insns.ManualInsn.ManualInsn, declared.insns.ManualInsn.TheVariants.Chip}
-use Rattle.dma_manual.specs.{declared.insns.Request.Request, declared.insns.Request.TheVariants.Single, declared.insns.Request.TheVariants.Burst}
+use Rattle.dma_manual.specs.{ManualText.counter_name, ManualText.end_name, ManualText.half_digits, declared.insns.ManualInsn.ManualInsn, declared.insns.ManualInsn.TheVariants.Chip}
+use Rattle.dma_manual.specs.{declared.insns.Request.Request}
 use Rattle.dma_manual.specs.{Words.is_word_byte, Words.next_of, Fields.fields_at, Assembled.label_by, Assembled.label_in, declared.statements.Again.Again}
 use Rattle.dma_manual.specs.{declared.statements.Again.TheVariants.Always, declared.statements.Again.TheVariants.If, declared.statements.Statement.Statement}
 use Rattle.dma_insn.specs.declared.chip.ChipInsn.TheVariants.{Mov, Sev, Wfe, AddHalfword}
@@ -27,8 +27,7 @@ pub record Says (labels : List Label) (line : List ℕ) (s : Statement) : Type 0
   pub said : by_name labels word rest ≡ Ok s
 
 pub says_spaced : (labels : List Label) (line : List ℕ) (s : Statement) → Says labels line s → Says labels (32 ∷ line) s
-says_spaced labels line s h =
-    record { word = h.word; rest = h.rest; next = next_space line ∙ h.next; unlabelled = h.unlabelled; said = h.said }
+says_spaced labels line s h = grind (arith, next_space)
 
 pub says_read : (labels : List Label) (line : List ℕ) (s : Statement) → Says labels line s → (label_in line ≡ None) × (statement_at labels line ≡ Ok s)
 says_read labels line s h = (ap label_by h.next ∙ h.unlabelled, ap (statement_by labels) h.next ∙ h.said)
@@ -67,8 +66,8 @@ wait_of : (name rest w b : List ℕ) (e : ℕ) (v : Bool) → next_of rest ≡ S
     → wait_line name rest ≡ Ok (says.Plain (Chip (Wfe e v)))
 wait_of name rest w b e v p q t = rw (p, q, t) refl
 
-flag_of : (rest tail : List ℕ) → next_of rest ≡ Some (codes "invalid", tail) → next_of tail ≡ None → flag_at (codes "invalid") rest ≡ Ok true
-flag_of rest tail p q = rw (p, q) refl
+pub flag_of : (flag rest tail : List ℕ) → bytes_eq flag flag ≡ true → next_of rest ≡ Some (flag, tail) → next_of tail ≡ None → flag_at flag rest ≡ Ok true
+flag_of flag rest tail same p q = rw (p, same, q) refl
 
 address_of : (reg : Reg) (name rest w b : List ℕ) (v : ℕ) → next_of rest ≡ Some (w, b) → number_of w ≡ Some v → v ≤ 0xffffffff → next_of b ≡ None
     → address_line reg name rest ≡ Ok (says.Plain (Chip (Mov reg v)))
@@ -105,28 +104,25 @@ again_of labels condition rest digits b again back p q small r = rw (p, q, le-le
 again_flag_of : (rest tail : List ℕ) → next_of rest ≡ Some (codes "lc1", tail) → next_of tail ≡ None → again_at None rest ≡ Ok (Always Lc1)
 again_flag_of rest tail p q = rw (p, q) refl
 
+-- the name of a counter
+counter_word : (c : Counter) → (has_bytes (plain (counter_name c)) ≡ true) × (list_all is_word_byte (plain (counter_name c)) ≡ true)
+    × (starts_with nat_eq (plain (counter_name c)) (codes "-") ≡ false) × (counter_of (plain (counter_name c)) ≡ Some c)
+counter_word c = grind (arith)
+
 -- the name of a DMALPEND
 end_some : (condition : Option Request) → has_bytes (plain (end_name condition)) ≡ true
-end_some None = refl
-end_some (Some Single) = refl
-end_some (Some Burst) = refl
+end_some condition = grind (arith)
 
 end_word : (condition : Option Request) → list_all is_word_byte (plain (end_name condition)) ≡ true
-end_word None = refl
-end_word (Some Single) = refl
-end_word (Some Burst) = refl
+end_word condition = grind (arith)
 
 end_unlabelled : (condition : Option Request) (rest : List ℕ) → label_by (Some (plain (end_name condition), rest)) ≡ None
-end_unlabelled None rest = refl
-end_unlabelled (Some Single) rest = refl
-end_unlabelled (Some Burst) rest = refl
+end_unlabelled condition rest = grind (arith)
 
 end_named : (labels : List Label) (condition : Option Request) (rest : List ℕ)
     → by_name labels (plain (end_name condition)) rest ≡ loop_end_line labels condition rest
 unfolding by_name by_other_name
-end_named labels None rest = refl
-end_named labels (Some Single) rest = refl
-end_named labels (Some Burst) rest = refl
+end_named labels condition rest = grind (arith)
 
 -- DMAMOV with a register and what follows it
 pub says_set : (labels : List Label) (reg rest : List ℕ) (s : Statement) → has_bytes reg ≡ true → list_all is_word_byte reg ≡ true → is_gap rest ≡ true
@@ -139,50 +135,50 @@ says_set labels reg rest s some word gap said =
 
 -- Each kind of instruction, in front of spaces.
 module _ (labels : List Label) (tail : List ℕ) (spaces : list_all is_space tail ≡ true) where
+  -- the last word, after two spaces
+  pub last_word : (w : List ℕ) → has_bytes w ≡ true → list_all is_word_byte w ≡ true → next_of (32 ∷ 32 ∷ (w ++ tail)) ≡ Some (w, tail)
+  last_word w some word = next_space (32 ∷ (w ++ tail)) ∙ next_space (w ++ tail) ∙ next_word w tail some word (gap_spaces tail spaces)
+
   pub says_bare : (name : List ℕ) (i : ManualInsn) → has_bytes name ≡ true → list_all is_word_byte name ≡ true → label_by (Some (name, tail)) ≡ None
       → (next_of tail ≡ None → by_name labels name tail ≡ Ok (says.Plain i)) → Says labels (name ++ tail) (says.Plain i)
   says_bare name i some word unlabelled said =
       named labels name tail (says.Plain i) some word (gap_spaces tail spaces) unlabelled (said (next_none tail spaces))
 
-  loop_said : (c : Counter) (name counter : List ℕ) (n : ℕ) → has_bytes counter ≡ true → list_all is_word_byte counter ≡ true → counter_of counter ≡ Some c
-      → 1 ≤ n → n ≤ 256 → loop_line name (32 ∷ (counter ++ 32 ∷ 32 ∷ (plain (decimal n) ++ tail))) ≡ Ok (says.Loop (Some c) n)
-  loop_said c name counter n some word is low high =
-      let r = decimal_read n high in
-      let last = plain (decimal n) ++ tail in
-      loop_of c name (32 ∷ (counter ++ 32 ∷ 32 ∷ last)) (32 ∷ 32 ∷ last) tail counter (plain (decimal n)) n
-      (next_space (counter ++ 32 ∷ 32 ∷ last) ∙ next_word counter (32 ∷ 32 ∷ last) some word refl) is
-      (next_space (32 ∷ last) ∙ next_space last ∙ next_word (plain (decimal n)) tail r.some r.word (gap_spaces tail spaces)) r.value low high
-      (next_none tail spaces)
-
-  pub says_loop : (c : Counter) (counter : List ℕ) (n : ℕ) → has_bytes counter ≡ true → list_all is_word_byte counter ≡ true → counter_of counter ≡ Some c
-      → 1 ≤ n → n ≤ 256 → Says labels (codes "dmalp " ++ (counter ++ 32 ∷ 32 ∷ (plain (decimal n) ++ tail))) (says.Loop (Some c) n)
+  pub says_loop : (c : Counter) (n : ℕ) → 1 ≤ n → n ≤ 256
+      → Says labels (codes "dmalp " ++ (plain (counter_name c) ++ 32 ∷ 32 ∷ (plain (decimal n) ++ tail))) (says.Loop (Some c) n)
   unfolding by_name
-  says_loop c counter n some word is low high =
-      named labels (codes "dmalp") (32 ∷ (counter ++ 32 ∷ 32 ∷ (plain (decimal n) ++ tail))) (says.Loop (Some c) n) refl refl refl refl
-      (loop_said c (codes "dmalp") counter n some word is low high)
+  says_loop c n low high =
+      let r = decimal_read n high in
+      let w = counter_word c in
+      let counter = plain (counter_name c) in
+      let last = plain (decimal n) ++ tail in
+      let rest = 32 ∷ (counter ++ 32 ∷ 32 ∷ last) in
+      named labels (codes "dmalp") rest (says.Loop (Some c) n) refl refl refl refl
+      (loop_of c (codes "dmalp") rest (32 ∷ 32 ∷ last) tail counter (plain (decimal n)) n
+      (next_space (counter ++ 32 ∷ 32 ∷ last) ∙ next_word counter (32 ∷ 32 ∷ last) w.0 w.1 refl) w.3
+      (last_word (plain (decimal n)) r.some r.word) r.value low high (next_none tail spaces))
 
   -- the last word of a DMALPEND
-  pub says_end : (condition : Option Request) (c : Counter) (counter w : List ℕ) (end : LoopTo) → has_bytes counter ≡ true
-      → list_all is_word_byte counter ≡ true → starts_with nat_eq counter (codes "-") ≡ false → counter_of counter ≡ Some c
+  pub says_end : (condition : Option Request) (c : Counter) (w : List ℕ) (end : LoopTo)
       → has_bytes w ≡ true → list_all is_word_byte w ≡ true → end_at labels c w tail ≡ Ok end
-      → Says labels (plain (end_name condition) ++ 32 ∷ (counter ++ 32 ∷ 32 ∷ (w ++ tail))) (says.LoopEnd condition end)
-  says_end condition c counter w end some word bare is some_w word_w to =
+      → Says labels (plain (end_name condition) ++ 32 ∷ (plain (counter_name c) ++ 32 ∷ 32 ∷ (w ++ tail))) (says.LoopEnd condition end)
+  says_end condition c w end some_w word_w to =
+      let k = counter_word c in
+      let counter = plain (counter_name c) in
       let last = w ++ tail in
       let rest = 32 ∷ (counter ++ 32 ∷ 32 ∷ last) in
       named labels (plain (end_name condition)) rest (says.LoopEnd condition end) (end_some condition) (end_word condition) refl (end_unlabelled condition rest)
       (end_named labels condition rest
       ∙ loop_end_of labels condition c rest (32 ∷ 32 ∷ last) tail counter w end
-      (next_space (counter ++ 32 ∷ 32 ∷ last) ∙ next_word counter (32 ∷ 32 ∷ last) some word refl) bare is
-      (next_space (32 ∷ last) ∙ next_space last ∙ next_word w tail some_w word_w (gap_spaces tail spaces)) to (next_none tail spaces))
+      (next_space (counter ++ 32 ∷ 32 ∷ last) ∙ next_word counter (32 ∷ 32 ∷ last) k.0 k.1 refl) k.2 k.3
+      (last_word w some_w word_w) to (next_none tail spaces))
 
-  pub says_back : (condition : Option Request) (c : Counter) (counter : List ℕ) (b : ℕ) → has_bytes counter ≡ true → list_all is_word_byte counter ≡ true
-      → starts_with nat_eq counter (codes "-") ≡ false → counter_of counter ≡ Some c
-      → b ≤ 255 → Says labels (plain (end_name condition) ++ 32 ∷ (counter ++ 32 ∷ 32 ∷ 45 ∷ (plain (decimal b) ++ tail)))
+  pub says_back : (condition : Option Request) (c : Counter) (b : ℕ) → b ≤ 255
+      → Says labels (plain (end_name condition) ++ 32 ∷ (plain (counter_name c) ++ 32 ∷ 32 ∷ 45 ∷ (plain (decimal b) ++ tail)))
       (says.LoopEnd condition (ends.Back c b))
-  says_back condition c counter b some word bare is small =
+  says_back condition c b small =
       let r = decimal_read b (omega arith) in
-      says_end condition c counter (45 ∷ plain (decimal b)) (ends.Back c b) some word bare is refl r.word
-      (end_back labels c (plain (decimal b)) tail b r.value small)
+      says_end condition c (45 ∷ plain (decimal b)) (ends.Back c b) refl r.word (end_back labels c (plain (decimal b)) tail b r.value small)
 
   pub says_signal : (e : ℕ) → e ≤ 31 → Says labels (codes "dmasev e" ++ (plain (decimal e) ++ tail)) (says.Plain (Chip (Sev e)))
   unfolding by_name
@@ -210,8 +206,7 @@ module _ (labels : List Label) (tail : List ℕ) (spaces : list_all is_space tai
   says_invalid e small =
       let last = codes "invalid" ++ tail in
       wait_said e true (32 ∷ 32 ∷ last) small refl
-      (flag_of (32 ∷ 32 ∷ last) tail (next_space (32 ∷ last) ∙ next_space last ∙ next_word (codes "invalid") tail refl refl (gap_spaces tail spaces))
-      (next_none tail spaces))
+      (flag_of (codes "invalid") (32 ∷ 32 ∷ last) tail refl (last_word (codes "invalid") refl refl) (next_none tail spaces))
 
   add_said : (negative : Bool) (a : Address) (name register : List ℕ) (half : ℕ) → half < 2 ^ 16 → has_bytes register ≡ true
       → list_all is_word_byte register ≡ true
@@ -222,8 +217,7 @@ module _ (labels : List Label) (tail : List ℕ) (spaces : list_all is_space tai
       let w = 48 ∷ 120 ∷ plain (half_digits half) in
       add_of negative a name (32 ∷ (register ++ 32 ∷ 32 ∷ (w ++ tail))) register (32 ∷ 32 ∷ (w ++ tail)) w tail half
       (next_space (register ++ 32 ∷ 32 ∷ (w ++ tail)) ∙ next_word register (32 ∷ 32 ∷ (w ++ tail)) some word refl) is
-      (next_space (32 ∷ (w ++ tail)) ∙ next_space (w ++ tail) ∙ next_word w tail refl (four_words half).0 (gap_spaces tail spaces))
-      (half_read half small) (omega arith) (next_none tail spaces)
+      (last_word w refl (four_words half).0) (half_read half small) (omega arith) (next_none tail spaces)
 
   pub says_add : (a : Address) (register : List ℕ) (half : ℕ) → half < 2 ^ 16 → has_bytes register ≡ true → list_all is_word_byte register ≡ true
       → register_of register ≡ Some a
@@ -262,8 +256,7 @@ module _ (labels : List Label) (tail : List ℕ) (spaces : list_all is_space tai
   says_again_flag back small =
       let last = codes "lc1" ++ tail in
       again_said None (Always Lc1) back (32 ∷ 32 ∷ last) small refl
-      (again_flag_of (32 ∷ 32 ∷ last) tail (next_space (32 ∷ last) ∙ next_space last ∙ next_word (codes "lc1") tail refl refl (gap_spaces tail spaces))
-      (next_none tail spaces))
+      (again_flag_of (32 ∷ 32 ∷ last) tail (last_word (codes "lc1") refl refl) (next_none tail spaces))
 
   pub says_again_if : (request : Request) (back : ℕ) → back ≤ 255
       → Says labels (plain (end_name (Some request)) ++ 32 ∷ 45 ∷ (plain (decimal back) ++ tail)) (says.LoopAgain (If request) back)
@@ -271,9 +264,7 @@ module _ (labels : List Label) (tail : List ℕ) (spaces : list_all is_space tai
 
   -- a number in hexadecimal digits
   number_next : (v : ℕ) → next_of (32 ∷ 32 ∷ 48 ∷ 120 ∷ (plain (hex_digits v) ++ tail)) ≡ Some (48 ∷ 120 ∷ plain (hex_digits v), tail)
-  number_next v =
-      let word = 48 ∷ 120 ∷ plain (hex_digits v) in
-      next_space (32 ∷ (word ++ tail)) ∙ next_space (word ++ tail) ∙ next_word word tail refl (hex_words v).0 (gap_spaces tail spaces)
+  number_next v = last_word (48 ∷ 120 ∷ plain (hex_digits v)) refl (hex_words v).0
 
   pub address_said : (reg : Reg) (name : List ℕ) (v : ℕ) → v < 2 ^ 32
       → address_line reg name (32 ∷ 32 ∷ 48 ∷ 120 ∷ (plain (hex_digits v) ++ tail)) ≡ Ok (says.Plain (Chip (Mov reg v)))

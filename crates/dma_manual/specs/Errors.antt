@@ -108,23 +108,15 @@ label_note (Some n) = notes.Line n
 abbrev pub sign_note : List ℕ → Note
 sign_note line = if has_sign line then notes.Sign else notes.Nothing
 
--- whether a cause is that an operand is missing
-abbrev pub is_missing : AsmCause → Bool
-is_missing (causes.Missing which) = true
-is_missing _ = false
+-- What a text says about a fault of this cause, besides the word: of a missing operand, whether a number sign begins the
+-- line's comment; of a label that no line before has, which line has it.
+abbrev pub note_by : List ℕ → Located → List ℕ → AsmCause → Note
+note_by text l word (causes.Missing which) = sign_note (line_of (text_lines text) l.place.line)
+note_by text l word causes.Label = label_note (line_with (map plain_byte (code_of word)) 0 (text_lines text))
+note_by text l word _ = notes.Nothing
 
--- whether the fault is a label that no earlier line has
-abbrev pub is_label : AsmCause → Bool
-is_label causes.Label = true
-is_label _ = false
-
--- What a text says about a fault, besides the word: of a missing operand, whether a number sign begins the line's
--- comment; of a label that no line before has, which line has it.
 abbrev pub note_of : List ℕ → Located → List ℕ → Note
-note_of text l word =
-    if is_missing l.cause then sign_note (line_of (text_lines text) l.place.line) else (
-    if is_label l.cause then label_note (line_with (map plain_byte (code_of word)) 0 (text_lines text))
-    else notes.Nothing)
+note_of text l word = note_by text l word l.cause
 
 -- how a note is printed
 abbrev pub note_text : Note → List ℕ

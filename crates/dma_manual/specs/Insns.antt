@@ -58,13 +58,11 @@ spelling (Other i) = other_spelling i
 
 -- The ranges of the fields. The types guarantee them.
 abbrev pub HasOtherRanges : OtherInsn → Type 0
-HasOtherRanges Kill = Unit {0}
-HasOtherRanges (LdIf r) = Unit {0}
-HasOtherRanges (StIf r) = Unit {0}
 HasOtherRanges (OfPeripheral a p) = p < 32
 HasOtherRanges (LpEndIf r c b) = b < 256
 HasOtherRanges (LoopAgainIf r b) = b < 256
 HasOtherRanges (Go c a ns) = (c < 8) × (a < 2 ^ 32)
+HasOtherRanges _ = Unit {0}
 
 -- the same of each instruction
 abbrev pub HasRanges : ManualInsn → Type 0

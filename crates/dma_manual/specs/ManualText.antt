@@ -122,12 +122,10 @@ action_name action.Flush = codes "DMAFLUSHP"
 
 -- what follows the peripheral: which requests a DMAWFP waits for
 abbrev pub action_flag : Action → List ℕ
-action_flag (action.Ld r) = []
-action_flag (action.St r) = []
 action_flag (action.Wait awaited.Single) = codes ", single"
 action_flag (action.Wait awaited.Burst) = codes ", burst"
 action_flag (action.Wait awaited.Either) = codes ", periph"
-action_flag action.Flush = []
+action_flag _ = []
 
 -- what follows the address of a DMAGO: whether the channel is non-secure
 abbrev pub go_flag : Bool → List ℕ

@@ -21,9 +21,8 @@ hint is_program input succeeds =
 
 -- whether a program begins with DMAEND, whose byte is 0, and has more bytes
 abbrev pub ends_at_once : List ℕ → Bool
-ends_at_once [] = false
-ends_at_once (b ∷ []) = false
 ends_at_once (b ∷ c ∷ rest) = b == 0
+ends_at_once _ = false
 
 -- the warning for an input that is taken as a program without a fault, begins with DMAEND and has more bytes
 abbrev pub end_warning : Bool → List ℕ → Bool → List ℕ

@@ -37,25 +37,19 @@ digits_in radix digits = if length digits == 0 then None else digits_from radix 
 abbrev pub number_of : List ℕ → Option ℕ
 number_of word = if starts_with nat_eq word (codes "0x") then digits_in 16 (drop 2 word) else digits_in 10 word
 
--- a number from low to high; the cause for any other number
-abbrev pub within : AsmCause → ℕ → ℕ → Option ℕ → List ℕ → List ℕ → Result ℕ Fault
-within cause low high None word rest = Err (fault_at causes.Number word rest)
-within cause low high (Some n) word rest =
+-- a number from low to high; `none` for what is no number, and the cause for any other number
+abbrev pub within : AsmCause → AsmCause → ℕ → ℕ → Option ℕ → List ℕ → List ℕ → Result ℕ Fault
+within none cause low high None word rest = Err (fault_at none word rest)
+within none cause low high (Some n) word rest =
     if nat_le low n && nat_le n high then Ok n else Err (fault_at cause word rest)
 
 -- the number that the digits of a word spell
 abbrev pub number_at : AsmCause → ℕ → ℕ → List ℕ → List ℕ → List ℕ → Result ℕ Fault
-number_at cause low high digits word rest = within cause low high (number_of digits) word rest
+number_at cause low high digits word rest = within causes.Number cause low high (number_of digits) word rest
 
 -- the same, with the cause also for what is no number
-abbrev pub in_field : AsmCause → ℕ → ℕ → Option ℕ → List ℕ → List ℕ → Result ℕ Fault
-in_field cause low high None word rest = Err (fault_at cause word rest)
-in_field cause low high (Some n) word rest =
-    if nat_le low n && nat_le n high then Ok n else Err (fault_at cause word rest)
-
--- the number of a field, by the digits of its word
 abbrev pub field_at : AsmCause → ℕ → ℕ → List ℕ → List ℕ → List ℕ → Result ℕ Fault
-field_at cause low high digits word rest = in_field cause low high (number_of digits) word rest
+field_at cause low high digits word rest = within cause cause low high (number_of digits) word rest
 
 -- a number of at most `most`, which a letter may precede
 abbrev pub lettered : ℕ → AsmCause → ℕ → List ℕ → List ℕ → Result ℕ Fault

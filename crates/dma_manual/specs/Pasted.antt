@@ -4,7 +4,7 @@ use Rattle.std.specs.Prelude.{Some, None, is_ok, Result, Ok, Err}
 use Rattle.std.specs.Int.{w64, to_le_bytes}
 use Rattle.dma_text.specs.Results.{◌>>=◌}
 use Rattle.dma_manual.specs.Forms.{bytes_first, form, plain_forms, size_of, words_first}
-use Rattle.dma_manual.specs.declared.forms.Column.TheVariants.{Colon, Hex, Octal, Headed, Array}
+use Rattle.dma_manual.specs.declared.forms.Column.TheVariants.{Colon, Array}
 use Rattle.dma_manual.specs.declared.forms.Group.TheVariants.{Byte, Half, Word, Long}
 use Rattle.dma_manual.specs.{Array.is_of_array, Dump.Step, Dump.next_of, declared.array.ArrayPlace.ArrayPlace, declared.array.ArrayPlace.TheVariants.Front}
 use Rattle.dma_manual.specs.{declared.array.ArrayPlace.TheVariants.Rest, Notes.ends_at_once, declared.dump.Cause.Cause, declared.dump.Effect.Effect}
@@ -26,11 +26,8 @@ applied group (Ends v n) bytes = bytes ++ replicate n v
 applied group (Cut n) bytes = take n bytes
 
 abbrev pub start_of : Column → Place
-start_of Colon = Start
-start_of Hex = Start
-start_of Octal = Start
-start_of Headed = Start
 start_of Array = InArray Front
+start_of _ = Start
 
 -- the scan before the first byte of a text
 abbrev pub begun : Form → Scan

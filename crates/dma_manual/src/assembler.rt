@@ -96,6 +96,15 @@ pub struct Located {
     pub cause: AsmCause,
 }
 
+impl Place {
+    /// Returns this cause of a fault at the place.
+    pub fn fault(self, cause: AsmCause) -> Located
+        ensures { result ≡ record { place = self; cause = cause } }
+    {
+        Located { place: self, cause }
+    }
+}
+
 /// Why a text was not assembled.
 #[derive(Drop)]
 pub enum Stop {

@@ -182,14 +182,12 @@ fn end_if(
         return Err(DecodeFault::Cut);
     }
     let back = bytes[1];
-    Ok((
-        OtherInsn::LpEndIf {
-            request,
-            counter,
-            back,
-        },
-        2,
-    ))
+    let insn = OtherInsn::LpEndIf {
+        request,
+        counter,
+        back,
+    };
+    Ok((insn, 2))
 }
 
 // Decodes a DMALPENDS or DMALPENDB of a loop that DMALPFE begins.
@@ -215,12 +213,10 @@ fn go_of(non_secure: bool, bytes: &[u8]) -> Result<(OtherInsn, usize), DecodeFau
     }
     let channel = Channel::of_number(bytes[1]);
     let address = LittleEndian::read_u32(&bytes[2..]);
-    Ok((
-        OtherInsn::Go {
-            channel,
-            address,
-            non_secure,
-        },
-        6,
-    ))
+    let insn = OtherInsn::Go {
+        channel,
+        address,
+        non_secure,
+    };
+    Ok((insn, 6))
 }

@@ -74,10 +74,7 @@ fn place_at(number: usize, line: &[u8], len: usize, after: usize) -> Place
 fn located(number: usize, line: &[u8], fault: Fault) -> Located
     ensures { result ≡ located number (length line.now) fault }
 {
-    Located {
-        place: place_at(number, line, fault.len, fault.after),
-        cause: fault.cause,
-    }
+    place_at(number, line, fault.len, fault.after).fault(fault.cause)
 }
 
 // Returns the place of the next word.
@@ -95,10 +92,7 @@ fn push_bytes(code: &mut Vec<u8>, bytes: &[u8], place: Place) -> Result<(), Stop
     ensures { ResultOr (λ _. code.new.items) result (with_bytes code.old.items bytes.now place) }
 {
     if bytes.len() > MAX_PROGRAM_BYTES || code.len() > MAX_PROGRAM_BYTES - bytes.len() {
-        return Err(Stop::At(Located {
-            place,
-            cause: AsmCause::TooLong,
-        }));
+        return Err(Stop::At(place.fault(AsmCause::TooLong)));
     }
     code.extend_from_slice(bytes)?;
     Ok(())
@@ -177,10 +171,7 @@ fn begin_endless(draft: &mut Draft, place: Place) -> Result<(), Stop>
         (begun_endless (draft_view draft.old) place) }
 {
     if draft.loops.endless.is_some() {
-        return Err(Stop::At(Located {
-            place,
-            cause: AsmCause::Nested,
-        }));
+        return Err(Stop::At(place.fault(AsmCause::Nested)));
     }
     let open = Open {
         start: draft.code.len(),
@@ -269,6 +260,7 @@ pub fn label_in(line: &[u8]) -> Option<(&[u8], &[u8])>
 }
 
 // Adds a label.
+#[tactic(auto, using(std::proofs::lemmas::Grind::common_steps))]
 fn add_label(
     draft: &mut Draft,
     number: usize,
@@ -281,10 +273,7 @@ fn add_label(
 {
     if label_of(&draft.labels, name).is_some() {
         let place = place_at(number, line, name.len() + 1, rest.len());
-        return Err(Stop::At(Located {
-            place,
-            cause: AsmCause::Twice,
-        }));
+        return Err(Stop::At(place.fault(AsmCause::Twice)));
     }
     let label = Named {
         name: name.to_vec(*draft.code.allocator())?,

@@ -2,7 +2,7 @@
 
 ghost use Rattle.std.specs.Prelude.{◌≡◌, ◌<◌, IfOk, map};
 ghost use Rattle.dma_text.specs.Lines.{text_lines};
-ghost use Rattle.dma_manual.specs.Errors.{error_text, field_message, has_label, is_label, is_missing, label_note, line_of, line_with, message, missing_message, named_by, note_of, note_text, sign_note, word_at};
+ghost use Rattle.dma_manual.specs.Errors.{error_text, field_message, has_label, label_note, line_of, line_with, message, missing_message, named_by, note_of, note_text, sign_note, word_at};
 ghost use Rattle.dma_manual.specs.Words.{code_of, plain_byte};
 
 use crate::assembler::{AsmCause, Field, Located, Operand, Place};
@@ -59,18 +59,8 @@ impl Text for Wrong<'_> {
 
     fn push(&self, out: &mut Vec<u8>) -> Result<(), AllocError> {
         let Place { line, column, .. } = self.located.place;
-        (
-            line,
-            ":",
-            column,
-            (
-                ": '",
-                self.word,
-                "' ",
-                (message(self.located.cause), self.note),
-            ),
-        )
-            .push(out)
+        let why = (message(self.located.cause), self.note);
+        (line, ":", column, (": '", self.word, "' ", why)).push(out)
     }
 }
 
@@ -232,26 +222,6 @@ fn sign_note(line: &[u8]) -> Note
     }
 }
 
-// Returns whether a cause is that an operand is missing.
-fn is_missing(cause: AsmCause) -> bool
-    ensures { result ≡ is_missing cause }
-{
-    match cause {
-        AsmCause::Missing(_) => true,
-        _ => false,
-    }
-}
-
-// Returns whether the fault is a label that no earlier line has.
-fn is_label(cause: AsmCause) -> bool
-    ensures { result ≡ is_label cause }
-{
-    match cause {
-        AsmCause::Label => true,
-        _ => false,
-    }
-}
-
 /// Returns what a text says about a fault, besides the word.
 pub fn note_of(
     alloc: Global,
@@ -261,11 +231,9 @@ pub fn note_of(
 ) -> Result<Note, AllocError>
     ensures { IfOk result (λ note. note ≡ note_of text.now located word.now) }
 {
-    if is_missing(located.cause) {
-        return Ok(sign_note(line_of(text, located.place.line)));
+    match located.cause {
+        AsmCause::Missing(_) => Ok(sign_note(line_of(text, located.place.line))),
+        AsmCause::Label => label_note(alloc, text, word),
+        _ => Ok(Note::Nothing),
     }
-    if is_label(located.cause) {
-        return label_note(alloc, text, word);
-    }
-    Ok(Note::Nothing)
 }

@@ -217,6 +217,7 @@ fn set_cache(
 }
 
 // Sets the field of an end whose name, without the end's letter, begins a word.
+#[tactic(auto, using(std::proofs::lemmas::Grind::common_steps))]
 fn set_end(
     end: &mut EndFields,
     side: Side,
@@ -253,6 +254,7 @@ fn swap_at(is_set: bool, name: &[u8], word: &[u8], rest: &[u8]) -> Result<(), Fa
 }
 
 // Sets the field of a word.
+#[tactic(auto, using(std::proofs::lemmas::Grind::common_steps))]
 fn set_field(fields: &mut Fields, word: &[u8], rest: &[u8]) -> Result<(), Fault>
     ensures { ResultIs (λ _. fields.new) result (set_field fields.old word.now rest.now) }
 {

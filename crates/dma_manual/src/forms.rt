@@ -42,76 +42,35 @@ pub struct Form {
     pub group: Group,
 }
 
+// A row of the table of forms.
+macro_rules! form {
+    ($column:ident, $group:ident) => {
+        Form {
+            column: Column::$column,
+            group: Group::$group,
+        }
+    };
+}
+
 /// The forms in the order in which they are tried if groups after a colon may be bytes.
 static BYTES_FIRST: [Form; 17] = [
-    Form {
-        column: Column::Colon,
-        group: Group::Byte,
-    },
-    Form {
-        column: Column::Colon,
-        group: Group::Word,
-    },
-    Form {
-        column: Column::Colon,
-        group: Group::Long,
-    },
-    Form {
-        column: Column::Colon,
-        group: Group::Half,
-    },
-    Form {
-        column: Column::Colon,
-        group: Group::Byte,
-    },
-    Form {
-        column: Column::Hex,
-        group: Group::Byte,
-    },
-    Form {
-        column: Column::Hex,
-        group: Group::Half,
-    },
-    Form {
-        column: Column::Hex,
-        group: Group::Word,
-    },
-    Form {
-        column: Column::Hex,
-        group: Group::Long,
-    },
-    Form {
-        column: Column::Hex,
-        group: Group::Octal,
-    },
-    Form {
-        column: Column::Octal,
-        group: Group::Byte,
-    },
-    Form {
-        column: Column::Octal,
-        group: Group::Half,
-    },
-    Form {
-        column: Column::Octal,
-        group: Group::Word,
-    },
-    Form {
-        column: Column::Octal,
-        group: Group::Long,
-    },
-    Form {
-        column: Column::Octal,
-        group: Group::Octal,
-    },
-    Form {
-        column: Column::Headed,
-        group: Group::Byte,
-    },
-    Form {
-        column: Column::Array,
-        group: Group::Byte,
-    },
+    form!(Colon, Byte),
+    form!(Colon, Word),
+    form!(Colon, Long),
+    form!(Colon, Half),
+    form!(Colon, Byte),
+    form!(Hex, Byte),
+    form!(Hex, Half),
+    form!(Hex, Word),
+    form!(Hex, Long),
+    form!(Hex, Octal),
+    form!(Octal, Byte),
+    form!(Octal, Half),
+    form!(Octal, Word),
+    form!(Octal, Long),
+    form!(Octal, Octal),
+    form!(Headed, Byte),
+    form!(Array, Byte),
 ];
 
 impl Column {

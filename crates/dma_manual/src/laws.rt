@@ -3,6 +3,7 @@
 ghost use Rattle.dma_manual.specs.Laws.{CommentsStandInColumns, ListingsAssemble, TextsAssemble};
 
 /// Law: the text of each instruction assembles to the instruction's bytes.
+#[tactic(auto, using(crate::proofs::OneLine::texts_assemble))]
 pub fn texts_assemble()
     ensures { TextsAssemble }
 {}
@@ -14,6 +15,7 @@ pub fn listings_assemble()
 {}
 
 /// Law: the comments of a listing begin in the same column.
+#[tactic(auto, using(crate::proofs::Columns::comments_stand_in_columns))]
 pub fn comments_stand_in_columns()
     ensures { CommentsStandInColumns }
 {}

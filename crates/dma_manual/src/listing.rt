@@ -47,6 +47,7 @@ pub fn disassemble(
 }
 
 // Appends the listing. May have appended a part of it if memory runs out.
+#[tactic(auto, using(dma_text::proofs::Begun::begins_more, dma_text::proofs::Begun::begins_same, std::proofs::lemmas::Grind::common_steps))]
 fn list(
     alloc: Global,
     program: &[u8],
@@ -181,14 +182,9 @@ fn push_statement(
 {
     match jump_of(labels, offset, insn) {
         Some(jump) => {
+            let name = end_name(jump.condition);
             let to = (", ", Label(jump.label));
-            (
-                end_name(jump.condition),
-                " ",
-                counter_name(jump.counter),
-                to,
-            )
-                .push(out)
+            (name, " ", counter_name(jump.counter), to).push(out)
         }
         None => insn.push(out),
     }
@@ -207,6 +203,7 @@ fn push_blanks(out: &mut Vec<u8>, width: usize) -> Result<(), AllocError>
 }
 
 // Appends an instruction with spaces before it.
+#[tactic(auto, using(dma_text::proofs::Begun::begins_more))]
 fn push_indented(
     out: &mut Vec<u8>,
     labels: &[usize],
@@ -222,6 +219,7 @@ fn push_indented(
 }
 
 // Appends the comment after a text of this width.
+#[tactic(auto, using(dma_text::proofs::Begun::begins_more))]
 fn push_comment(
     out: &mut Vec<u8>,
     width: usize,
@@ -248,6 +246,7 @@ pub fn address_of(at: u32, offset: usize) -> u32
 }
 
 // Appends the line of an instruction.
+#[tactic(auto, using(dma_text::proofs::Begun::begins_more))]
 fn push_line(
     out: &mut Vec<u8>,
     labels: &[usize],
@@ -335,11 +334,6 @@ fn push_stop(
 {
     let shown = &rest[..rest.len().min(6)];
     let address = (" (0x", Address(address_of(at, offset)));
-    (
-        (" offset ", offset),
-        address,
-        "): ",
-        (Cause(fault), SpacedBytes(shown), "\n"),
-    )
-        .push(err)
+    let why = (Cause(fault), SpacedBytes(shown), "\n");
+    ((" offset ", offset), address, "): ", why).push(err)
 }

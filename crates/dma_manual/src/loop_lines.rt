@@ -53,6 +53,7 @@ pub fn loop_line(name: &[u8], rest: &[u8]) -> Result<Statement, Fault>
 }
 
 // Reads where a DMALPEND jumps to: a label, or the number of bytes after a minus.
+#[tactic(auto, using(std::proofs::lemmas::Grind::common_steps))]
 fn end_at(labels: &[Named], counter: Counter, word: &[u8], rest: &[u8]) -> Result<End, Fault>
     ensures { result ≡ end_at (map label_view labels.now) counter word.now rest.now }
 {

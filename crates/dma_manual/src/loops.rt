@@ -198,10 +198,7 @@ fn ended(begun: Option<Open>) -> Result<(), Located>
                 unnamed: Some(place),
                 ..
             },
-        ) => Err(Located {
-            place,
-            cause: AsmCause::Open,
-        }),
+        ) => Err(place.fault(AsmCause::Open)),
         _ => Ok(()),
     }
 }
@@ -218,10 +215,7 @@ pub fn chosen(
         Some(counter) => Ok((counter, None)),
         None => match loops.free_counter() {
             Some(counter) => Ok((counter, Some(place))),
-            None => Err(Located {
-                place,
-                cause: AsmCause::NoCounter,
-            }),
+            None => Err(place.fault(AsmCause::NoCounter)),
         },
     }
 }
@@ -233,10 +227,7 @@ fn back_to(here: usize, start: usize, place: Place) -> Result<u8, Located>
     if start <= here && here - start <= 255 {
         Ok((here - start) as u8)
     } else {
-        Err(Located {
-            place,
-            cause: AsmCause::Far,
-        })
+        Err(place.fault(AsmCause::Far))
     }
 }
 
@@ -249,10 +240,7 @@ pub fn jump_of(
 ) -> Result<(LoopKind, u8), Located>
     ensures { result ≡ jump_of loops.now here end place }
 {
-    let missing = Located {
-        place,
-        cause: AsmCause::NoLoop,
-    };
+    let missing = place.fault(AsmCause::NoLoop);
     match end {
         End::Innermost => {
             let (kind, start) = loops.innermost().ok_or(missing)?;

@@ -20,6 +20,7 @@ pub struct Manual(pub ChipInsn);
 impl Text for Manual {
     ghost text = { λ m. manual_text m.0 };
 
+    #[tactic(auto, using(std::proofs::lemmas::Grind::common_steps))]
     fn push(&self, out: &mut Vec<u8>) -> Result<(), AllocError> {
         match self.0 {
             ChipInsn::End => "DMAEND".push(out),
@@ -29,13 +30,8 @@ impl Text for Manual {
             ChipInsn::Wmb => "DMAWMB".push(out),
             ChipInsn::Nop => "DMANOP".push(out),
             ChipInsn::Lp { counter, times } => {
-                (
-                    "DMALP ",
-                    counter_name(counter),
-                    ", ",
-                    u32::from(times.number()),
-                )
-                    .push(out)
+                let times = u32::from(times.number());
+                ("DMALP ", counter_name(counter), ", ", times).push(out)
             }
             ChipInsn::LpEnd { counter, back } => {
                 ("DMALPEND ", counter_name(counter), ", -", back).push(out)
@@ -110,11 +106,8 @@ impl Text for HalfDigits {
 
     fn push(&self, out: &mut Vec<u8>) -> Result<(), AllocError> {
         let HalfDigits(half) = *self;
-        (
-            HexByte((half / 256 % 256) as u8),
-            HexByte((half % 256) as u8),
-        )
-            .push(out)
+        let high = HexByte((half / 256 % 256) as u8);
+        (high, HexByte((half % 256) as u8)).push(out)
     }
 }
 
@@ -145,13 +138,10 @@ impl Text for OtherInsn {
                 request,
                 counter,
                 back,
-            } => (
-                end_name(Some(request)),
-                " ",
-                counter_name(counter),
-                (", -", back),
-            )
-                .push(out),
+            } => {
+                let name = end_name(Some(request));
+                (name, " ", counter_name(counter), (", -", back)).push(out)
+            }
             OtherInsn::LoopAgainIf { request, back } => {
                 (end_name(Some(request)), " -", back).push(out)
             }
@@ -286,6 +276,7 @@ struct EndText {
 impl Text for EndText {
     ghost text = { λ t. end_text t.side t.end };
 
+    #[tactic(auto, using(dma_text::proofs::Begun::begins_more, std::proofs::lemmas::Grind::common_steps))]
     fn push(&self, out: &mut Vec<u8>) -> Result<(), AllocError> {
         let EndText { side, end } = *self;
         let letter = side.letter();

@@ -87,10 +87,8 @@ pub fn with_form(mut answer: Answer, form: Option<Form>) -> Result<Answer, Alloc
         } else {
             ("  (read as ", ")\n")
         };
-        print(
-            &mut answer.err,
-            &(front, units(form.group), left_out(form.column), end),
-        )?;
+        let note = (front, units(form.group), left_out(form.column), end);
+        print(&mut answer.err, &note)?;
     }
     Ok(answer)
 }

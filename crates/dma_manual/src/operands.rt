@@ -3,9 +3,10 @@
 ghost use Rattle.std.specs.Prelude.{◌≡◌, ◌≤◌, ◌^◌, IfOk, IfSome};
 ghost use Rattle.dma_insn.specs.LineReading.{ResultIs};
 ghost use Rattle.dma_manual.specs.Words.{next_of};
+ghost use Rattle.dma_manual.specs.declared.assembler.AsmCause.TheVariants.{Missing};
 ghost use Rattle.dma_manual.specs.Operands.{digits_in, fault_at, field_at, flag_at, lettered, no_more, number_at, number_of, word_after};
 
-use crate::assembler::{AsmCause, Fault};
+use crate::assembler::{AsmCause, Fault, Operand};
 use crate::words::next_word;
 use dma_text::bytes::is_text;
 use dma_text::digits::digit_value;
@@ -26,6 +27,18 @@ pub fn word_after(rest: &[u8], missing: Fault) -> Result<(&[u8], &[u8]), Fault>
     ensures { ResultIs (λ w. (w.0.now, w.1.now)) result (word_after rest.now missing) }
 {
     next_word(rest).ok_or(missing)
+}
+
+/// Returns the next word and what follows it. Fails at the word before, `name`, if this operand is missing.
+pub fn operand_after<'a>(
+    operand: Operand,
+    name: &[u8],
+    rest: &'a [u8],
+) -> Result<(&'a [u8], &'a [u8]), Fault>
+    ensures { ResultIs (λ w. (w.0.now, w.1.now)) result
+        (word_after rest.now (fault_at (Missing operand) name.now rest.now)) }
+{
+    word_after(rest, fault_at(AsmCause::Missing(operand), name, rest))
 }
 
 /// Succeeds if no word is left. Fails with `Extra` at the next word otherwise.

@@ -6,7 +6,7 @@ ghost use Rattle.dma_manual.specs.Statements.{await_line, awaited_of, by_other_n
 use crate::assembler::{AsmCause, Fault, Operand};
 use crate::insns::{Action, Awaited, Channel, ManualInsn, OtherInsn, Peripheral, Request};
 use crate::loop_lines::loop_end_line;
-use crate::operands::{fault_at, flag_at, lettered, no_more, number_at, word_after};
+use crate::operands::{fault_at, flag_at, lettered, no_more, number_at, operand_after};
 use crate::statements::{Named, Statement, bare};
 use dma_text::bytes::is_text;
 
@@ -14,8 +14,7 @@ use dma_text::bytes::is_text;
 fn peripheral_line(action: Action, name: &[u8], rest: &[u8]) -> Result<Statement, Fault>
     ensures { result ≡ peripheral_line action name.now rest.now }
 {
-    let missing = fault_at(AsmCause::Missing(Operand::Peripheral), name, rest);
-    let (word, rest) = word_after(rest, missing)?;
+    let (word, rest) = operand_after(Operand::Peripheral, name, rest)?;
     let number = lettered(b'p', AsmCause::Peripheral, 31, word, rest)?;
     no_more(rest)?;
     let peripheral = Peripheral::of_number(number as u8);
@@ -42,11 +41,9 @@ fn awaited_of(word: &[u8]) -> Option<Awaited>
 fn await_line(name: &[u8], rest: &[u8]) -> Result<Statement, Fault>
     ensures { result ≡ await_line name.now rest.now }
 {
-    let missing = fault_at(AsmCause::Missing(Operand::Peripheral), name, rest);
-    let (word, rest) = word_after(rest, missing)?;
+    let (word, rest) = operand_after(Operand::Peripheral, name, rest)?;
     let number = lettered(b'p', AsmCause::Peripheral, 31, word, rest)?;
-    let missing = fault_at(AsmCause::Missing(Operand::Request), word, rest);
-    let (kind, rest) = word_after(rest, missing)?;
+    let (kind, rest) = operand_after(Operand::Request, word, rest)?;
     let awaited = awaited_of(kind).ok_or(fault_at(AsmCause::Request, kind, rest))?;
     no_more(rest)?;
     let insn = OtherInsn::OfPeripheral {
@@ -60,11 +57,9 @@ fn await_line(name: &[u8], rest: &[u8]) -> Result<Statement, Fault>
 fn go_line(name: &[u8], rest: &[u8]) -> Result<Statement, Fault>
     ensures { result ≡ go_line name.now rest.now }
 {
-    let missing = fault_at(AsmCause::Missing(Operand::Channel), name, rest);
-    let (word, rest) = word_after(rest, missing)?;
+    let (word, rest) = operand_after(Operand::Channel, name, rest)?;
     let number = lettered(b'c', AsmCause::Channel, 7, word, rest)?;
-    let missing = fault_at(AsmCause::Missing(Operand::Address), word, rest);
-    let (digits, rest) = word_after(rest, missing)?;
+    let (digits, rest) = operand_after(Operand::Address, word, rest)?;
     let address = number_at(AsmCause::Value, 0, 0xffff_ffff, digits, digits, rest)?;
     let non_secure = flag_at(b"ns", rest)?;
     let insn = OtherInsn::Go {

@@ -1,5 +1,6 @@
 //! Reads a dump in the form that fits, and a program from digits or a dump.
 ghost use Rattle.std.specs.Prelude.{◌≡◌, ◌++◌, [], IfOk, MatchResult, OnOk, Some, replicate};
+ghost use Rattle.dma_insn.specs.LineReading.{ResultIs};
 ghost use Rattle.dma_manual.specs.Forms.{plain_forms, words_first};
 ghost use Rattle.dma_manual.specs.Pasted.{applied, begun, colon_form, digits_of, dump_of, ended, fit, forms_for, further, is_ambiguous, is_marked, is_whole, lacks_lines, nowhere, other_of, pasted, plain_of, read_as, read_from, says_more, taken};
 
@@ -114,9 +115,8 @@ fn take(
     at: usize,
     byte: u8,
 ) -> Result<Result<Scan, Fault>, AllocError>
-    ensures { IfOk result (λ taking. MatchResult taking
-        (λ next. taken form scan bytes.old.items at byte ≡ Ok (next, bytes.new.items))
-        (λ fault. taken form scan bytes.old.items at byte ≡ Err fault)) }
+    ensures { IfOk result (λ taking. ResultIs (λ next. (next, bytes.new.items)) taking
+        (taken form scan bytes.old.items at byte)) }
 {
     let cause = match scan.next(form, bytes, byte) {
         Ok((next, effect)) => {
@@ -147,9 +147,7 @@ fn is_whole(place: Place) -> bool
 
 /// Returns the bytes at the end of a text and whether it is surely a dump, or a fault.
 fn ended(scan: Scan, bytes: Vec<u8>, at: usize) -> Result<(Vec<u8>, bool), Fault>
-    ensures { MatchResult result
-        (λ it. ended scan bytes.items at ≡ Ok (it.0.items, it.1))
-        (λ fault. ended scan bytes.items at ≡ Err fault) }
+    ensures { ResultIs (λ it. (it.0.items, it.1)) result (ended scan bytes.items at) }
 {
     if is_whole(scan.place) && !bytes.is_empty() {
         return Ok((bytes, scan.is_sure));
@@ -168,9 +166,8 @@ fn finish(
     mut bytes: Vec<u8>,
     at: usize,
 ) -> Result<Result<(Vec<u8>, bool), Fault>, AllocError>
-    ensures { IfOk result (λ read. MatchResult read
-        (λ it. read_from form scan bytes.items at [] ≡ Ok (it.0.items, it.1))
-        (λ fault. read_from form scan bytes.items at [] ≡ Err fault)) }
+    ensures { IfOk result (λ read. ResultIs (λ it. (it.0.items, it.1)) read
+        (read_from form scan bytes.items at [])) }
 {
     match take(form, scan, &mut bytes, at, b'\n')? {
         Ok(next) => Ok(ended(next, bytes, at)),
@@ -184,9 +181,8 @@ fn read_as(
     form: Form,
     text: &[u8],
 ) -> Result<Result<(Vec<u8>, bool), Fault>, AllocError>
-    ensures { IfOk result (λ read. MatchResult read
-        (λ it. read_as form text.now ≡ Ok (it.0.items, it.1))
-        (λ fault. read_as form text.now ≡ Err fault)) }
+    ensures { IfOk result (λ read. ResultIs (λ it. (it.0.items, it.1)) read
+        (read_as form text.now)) }
 {
     let mut bytes = Vec::new(alloc);
     let mut scan = begun(form);
@@ -213,9 +209,8 @@ fn further(first: Fault, second: Fault) -> Fault
 
 /// Returns a text as a dump in the first of the forms that fits, or the furthest fault.
 fn fit(alloc: Global, forms: &[Form], text: &[u8]) -> Result<Result<Dump, Fault>, AllocError>
-    ensures { IfOk result (λ read. MatchResult read
-        (λ dump. fit forms.now nowhere text.now ≡ Ok (dump.form, dump.bytes.items, dump.is_sure))
-        (λ fault. fit forms.now nowhere text.now ≡ Err fault)) }
+    ensures { IfOk result (λ read. ResultIs (λ dump. (dump.form, dump.bytes.items, dump.is_sure)) read
+        (fit forms.now nowhere text.now)) }
 {
     let mut furthest = Fault {
         cause: Cause::Byte,
@@ -275,9 +270,8 @@ impl Dump {
 
 /// Returns the program of a text that is a dump.
 fn read_dump(alloc: Global, text: &[u8]) -> Result<Result<Pasted, Refused>, AllocError>
-    ensures { IfOk result (λ read. MatchResult read
-        (λ it. dump_of text.now (fit words_first nowhere text.now) ≡ Ok (it.form, it.bytes.items))
-        (λ why. dump_of text.now (fit words_first nowhere text.now) ≡ Err why)) }
+    ensures { IfOk result (λ read. ResultIs (λ it. (it.form, it.bytes.items)) read
+        (dump_of text.now (fit words_first nowhere text.now))) }
 {
     let dump = match fit(alloc, words_first(), text)? {
         Ok(dump) => dump,
@@ -303,9 +297,8 @@ fn read_plain(
     bytes: Vec<u8>,
     text: &[u8],
 ) -> Result<Result<Pasted, Refused>, AllocError>
-    ensures { IfOk result (λ read. MatchResult read
-        (λ it. plain_of bytes.items (fit plain_forms nowhere text.now) ≡ Ok (it.form, it.bytes.items))
-        (λ why. plain_of bytes.items (fit plain_forms nowhere text.now) ≡ Err why)) }
+    ensures { IfOk result (λ read. ResultIs (λ it. (it.form, it.bytes.items)) read
+        (plain_of bytes.items (fit plain_forms nowhere text.now))) }
 {
     match fit(alloc, plain_forms(), text)? {
         Ok(dump) if dump.is_sure => Ok(Ok(dump.pasted())),
@@ -334,9 +327,8 @@ fn read_digits(
     bytes: Vec<u8>,
     text: &[u8],
 ) -> Result<Result<Pasted, Refused>, AllocError>
-    ensures { IfOk result (λ read. MatchResult read
-        (λ it. digits_of notation text.now (Ok bytes.items) ≡ Ok (it.form, it.bytes.items))
-        (λ why. digits_of notation text.now (Ok bytes.items) ≡ Err why)) }
+    ensures { IfOk result (λ read. ResultIs (λ it. (it.form, it.bytes.items)) read
+        (digits_of notation text.now (Ok bytes.items))) }
 {
     match read_as(alloc, colon_form(notation), text)? {
         Err(fault) if lacks_lines(fault) => Ok(Err(Refused::Dump(fault))),
@@ -365,9 +357,8 @@ fn read_other(
     at: usize,
     text: &[u8],
 ) -> Result<Result<Pasted, Refused>, AllocError>
-    ensures { IfOk result (λ read. MatchResult read
-        (λ it. other_of notation at (fit (forms_for notation) nowhere text.now) ≡ Ok (it.form, it.bytes.items))
-        (λ why. other_of notation at (fit (forms_for notation) nowhere text.now) ≡ Err why)) }
+    ensures { IfOk result (λ read. ResultIs (λ it. (it.form, it.bytes.items)) read
+        (other_of notation at (fit (forms_for notation) nowhere text.now))) }
 {
     match fit(alloc, forms_for(notation), text)? {
         Ok(dump) if dump.is_sure || is_marked(dump.form.column) => Ok(Ok(dump.pasted())),

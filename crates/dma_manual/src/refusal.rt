@@ -59,10 +59,9 @@ fn ambiguous_message(alloc: Global) -> Result<Vec<u8>, AllocError>
     ensures { IfOk result (λ err. err.items ≡ ambiguous_message) }
 {
     let mut err = Vec::new(alloc);
-    print(
-        &mut err,
-        &" the groups may be bytes in this order, as xxd prints them (--hex), or words, as md does (--words)\n",
-    )?;
+    let message =
+        " the groups may be bytes in this order, as xxd prints them (--hex), or words, as md does (--words)\n";
+    print(&mut err, &message)?;
     Ok(err)
 }
 

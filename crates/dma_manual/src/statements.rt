@@ -7,7 +7,7 @@ use crate::assembler::{AsmCause, Fault, Operand};
 use crate::fields::fields_at;
 use crate::insns::{ManualInsn, Request};
 use crate::loop_lines::{loop_end_line, loop_line};
-use crate::operands::{fault_at, flag_at, lettered, no_more, number_at, word_after};
+use crate::operands::{fault_at, flag_at, lettered, no_more, number_at, operand_after};
 use crate::other_lines::by_other_name;
 use crate::words::next_word;
 use dma_insn::chip::{Address, ChipInsn};
@@ -92,10 +92,7 @@ pub fn bare(statement: Statement, rest: &[u8]) -> Result<Statement, Fault>
 fn event_line(name: &[u8], rest: &[u8]) -> Result<Statement, Fault>
     ensures { result ≡ event_line name.now rest.now }
 {
-    let (word, rest) = word_after(
-        rest,
-        fault_at(AsmCause::Missing(Operand::Event), name, rest),
-    )?;
+    let (word, rest) = operand_after(Operand::Event, name, rest)?;
     let event = lettered(b'e', AsmCause::Event, 31, word, rest)?;
     no_more(rest)?;
     let insn = ChipInsn::Sev(Event::of_number(event as u8));
@@ -106,10 +103,7 @@ fn event_line(name: &[u8], rest: &[u8]) -> Result<Statement, Fault>
 fn wait_line(name: &[u8], rest: &[u8]) -> Result<Statement, Fault>
     ensures { result ≡ wait_line name.now rest.now }
 {
-    let (word, rest) = word_after(
-        rest,
-        fault_at(AsmCause::Missing(Operand::Event), name, rest),
-    )?;
+    let (word, rest) = operand_after(Operand::Event, name, rest)?;
     let number = lettered(b'e', AsmCause::Event, 31, word, rest)?;
     let invalid = flag_at(b"invalid", rest)?;
     Ok(Statement::Plain(ManualInsn::Chip(ChipInsn::Wfe {
@@ -122,7 +116,7 @@ fn wait_line(name: &[u8], rest: &[u8]) -> Result<Statement, Fault>
 fn byte_line(name: &[u8], rest: &[u8]) -> Result<Statement, Fault>
     ensures { result ≡ byte_line name.now rest.now }
 {
-    let (word, rest) = word_after(rest, fault_at(AsmCause::Missing(Operand::Byte), name, rest))?;
+    let (word, rest) = operand_after(Operand::Byte, name, rest)?;
     let byte = number_at(AsmCause::Byte, 0, 255, word, word, rest)?;
     no_more(rest)?;
     Ok(Statement::Byte(byte as u8))
@@ -142,10 +136,7 @@ fn set_value(reg: Reg, word: &[u8], rest: &[u8]) -> Result<Statement, Fault>
 fn control_line(name: &[u8], rest: &[u8]) -> Result<Statement, Fault>
     ensures { result ≡ control_line name.now rest.now }
 {
-    let (word, after) = word_after(
-        rest,
-        fault_at(AsmCause::Missing(Operand::Fields), name, rest),
-    )?;
+    let (word, after) = operand_after(Operand::Fields, name, rest)?;
     match word {
         [b'0'..=b'9', ..] => set_value(Reg::Ccr, word, after),
         _ => {
@@ -159,10 +150,7 @@ fn control_line(name: &[u8], rest: &[u8]) -> Result<Statement, Fault>
 fn address_line(reg: Reg, name: &[u8], rest: &[u8]) -> Result<Statement, Fault>
     ensures { result ≡ address_line reg name.now rest.now }
 {
-    let (word, after) = word_after(
-        rest,
-        fault_at(AsmCause::Missing(Operand::Address), name, rest),
-    )?;
+    let (word, after) = operand_after(Operand::Address, name, rest)?;
     set_value(reg, word, after)
 }
 
@@ -170,10 +158,7 @@ fn address_line(reg: Reg, name: &[u8], rest: &[u8]) -> Result<Statement, Fault>
 fn set_line(name: &[u8], rest: &[u8]) -> Result<Statement, Fault>
     ensures { result ≡ set_line name.now rest.now }
 {
-    let (word, rest) = word_after(
-        rest,
-        fault_at(AsmCause::Missing(Operand::Register), name, rest),
-    )?;
+    let (word, rest) = operand_after(Operand::Register, name, rest)?;
     if is_text(word, b"sar") {
         address_line(Reg::Sar, word, rest)
     } else if is_text(word, b"dar") {
@@ -202,15 +187,9 @@ fn address_of(word: &[u8]) -> Option<Address>
 fn add_line(negative: bool, name: &[u8], rest: &[u8]) -> Result<Statement, Fault>
     ensures { result ≡ add_line negative name.now rest.now }
 {
-    let (register, rest) = word_after(
-        rest,
-        fault_at(AsmCause::Missing(Operand::AddressRegister), name, rest),
-    )?;
+    let (register, rest) = operand_after(Operand::AddressRegister, name, rest)?;
     let address = address_of(register).ok_or(fault_at(AsmCause::AddressRegister, register, rest))?;
-    let (word, rest) = word_after(
-        rest,
-        fault_at(AsmCause::Missing(Operand::Halfword), register, rest),
-    )?;
+    let (word, rest) = operand_after(Operand::Halfword, register, rest)?;
     let half = number_at(AsmCause::Halfword, 0, 0xffff, word, word, rest)?;
     no_more(rest)?;
     Ok(Statement::Plain(ManualInsn::Chip(ChipInsn::AddHalfword {

@@ -38,13 +38,8 @@ impl Text for Warning {
                 let place = stray.place;
                 let words = "' does not jump to the instruction after its ";
                 let end = (words, start_name(stray.kind), "\n");
-                (
-                    place.line,
-                    ":",
-                    place.column,
-                    (": warning: '", end_name(stray.condition), end),
-                )
-                    .push(out)
+                let warning = (": warning: '", end_name(stray.condition), end);
+                (place.line, ":", place.column, warning).push(out)
             }
             None if self.stops => "".push(out),
             None => " warning: the text has no DMAEND\n".push(out),

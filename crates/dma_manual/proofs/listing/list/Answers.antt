@@ -1,6 +1,5 @@
-use Rattle.std.proofs.lemmas.Grind.{common_steps}
 use Rattle.std.proofs.Common.{arith, length, sym, ◌∙◌}
-use Rattle.dma_text.proofs.Begun.{begins_more, begins_same}
+use Rattle.dma_text.proofs.Begun.{begins_more}
 use Rattle.dma_manual.specs.Listing.{listed}
 use Rattle.dma_manual.proofs.Listings.{listed_last, listed_step}
 use Rattle.dma_manual.proofs.listing.list.Goals as goal
@@ -9,11 +8,9 @@ pub loop-rest-preserved : goal.loop-rest-preserved
 loop-rest-preserved c =
     let step =
     listed_step c.args.at c.loop-rest.labels.items c.loop-rest.offset c.in-Ok.count c.loop-rest.rest.now c.in-Ok.insn c.loop-rest.out.items
-    c.push_line.new.out.items
-    c.push_label.new.out.items c.split_at.result.1.now c.push_label.new.labels.items (sym c.in-Ok.ensures.exact) c.in-Ok.ensures.within.0
-    c.in-Ok.ensures.within.1 (sym c.if-is_end.ensures) c.deref.result.now c.deref.ensures.value c.in_ok-push_line-in-Ok.ensures.ok
-    c.in_ok-push_label-in-Ok.ensures.ok
-    c.in_ok-push_label-in-Ok.ensures.labels c.split_at.ensures.back in
+    c.push_line.new.out.items c.deref.result.now (sym c.in-Ok.ensures.exact) c.in-Ok.ensures.within.0 c.in-Ok.ensures.within.1 c.deref.ensures.value
+    c.in_ok-push_line-in-Ok.ensures.ok c.push_label.new.out.items c.split_at.result.1.now c.push_label.new.labels.items (sym c.if-is_end.ensures)
+    c.in_ok-push_label-in-Ok.ensures.ok c.in_ok-push_label-in-Ok.ensures.labels c.split_at.ensures.back in
     record {
       counted = omega arith;
       text = step.0 ∙ c.loop-rest.invariant.text;
@@ -22,81 +19,10 @@ loop-rest-preserved c =
       begins = begins_more _ _ _ (begins_more _ _ _ c.loop-rest.invariant.begins c.push_line.ensures.begins) c.push_label.ensures.begins;
     }
 
-pub returns-in_err-push_line-in-Ok-clause-out_begins : goal.returns-in_err-push_line-in-Ok-clause-out_begins
-returns-in_err-push_line-in-Ok-clause-out_begins c = begins_more _ _ _ c.loop-rest.invariant.begins c.push_line.ensures.begins
-
-pub returns-in_err-push_line-in-Ok-clause-err_begins : goal.returns-in_err-push_line-in-Ok-clause-err_begins
-returns-in_err-push_line-in-Ok-clause-err_begins c = begins_same _ _ c.loop-rest.invariant.err
-
-pub returns-in_err-push_rest-in-Ok-clause-out_begins : goal.returns-in_err-push_rest-in-Ok-clause-out_begins
-returns-in_err-push_rest-in-Ok-clause-out_begins c =
-    begins_more _ _ _ (begins_more _ _ _ c.loop-rest.invariant.begins c.push_line.ensures.begins) c.push_rest.ensures.begins
-
-pub returns-in_err-push_rest-in-Ok-clause-err_begins : goal.returns-in_err-push_rest-in-Ok-clause-err_begins
-returns-in_err-push_rest-in-Ok-clause-err_begins c = begins_same _ _ c.loop-rest.invariant.err
-
-pub returns-in_err-push_label-in-Ok-clause-out_begins : goal.returns-in_err-push_label-in-Ok-clause-out_begins
-returns-in_err-push_label-in-Ok-clause-out_begins c =
-    begins_more _ _ _ (begins_more _ _ _ c.loop-rest.invariant.begins c.push_line.ensures.begins) c.push_label.ensures.begins
-
-pub returns-in_err-push_label-in-Ok-clause-err_begins : goal.returns-in_err-push_label-in-Ok-clause-err_begins
-returns-in_err-push_label-in-Ok-clause-err_begins c = begins_same _ _ c.loop-rest.invariant.err
-
-pub returns-then-is_end-clause-out_begins : goal.returns-then-is_end-clause-out_begins
-returns-then-is_end-clause-out_begins c =
-    begins_more _ _ _ (begins_more _ _ _ c.loop-rest.invariant.begins c.push_line.ensures.begins) c.push_rest.ensures.begins
-
-pub returns-then-is_end-clause-err_begins : goal.returns-then-is_end-clause-err_begins
-returns-then-is_end-clause-err_begins c = begins_same _ _ c.loop-rest.invariant.err
-
-pub returns-in_err-push_stop-in-Err-clause-out_begins : goal.returns-in_err-push_stop-in-Err-clause-out_begins
-returns-in_err-push_stop-in-Err-clause-out_begins c = c.loop-rest.invariant.begins
-
-pub returns-in_err-push_stop-in-Err-clause-err_begins : goal.returns-in_err-push_stop-in-Err-clause-err_begins
-returns-in_err-push_stop-in-Err-clause-err_begins c = begins_more _ _ _ (begins_same _ _ c.loop-rest.invariant.err) c.push_stop.ensures.begins
-
-pub returns-in-Err-clause-out_begins : goal.returns-in-Err-clause-out_begins
-returns-in-Err-clause-out_begins c = c.loop-rest.invariant.begins
-
-pub returns-in-Err-clause-err_begins : goal.returns-in-Err-clause-err_begins
-returns-in-Err-clause-err_begins c = begins_more _ _ _ (begins_same _ _ c.loop-rest.invariant.err) c.push_stop.ensures.begins
-
-pub returns-clause-out_begins : goal.returns-clause-out_begins
-returns-clause-out_begins c = c.loop-rest.invariant.begins
-
-pub returns-clause-err_begins : goal.returns-clause-err_begins
-returns-clause-err_begins c = begins_same _ _ c.loop-rest.invariant.err
-
-pub returns-in-Err-clause-out : goal.returns-in-Err-clause-out
-returns-in-Err-clause-out c = grind (arith, common_steps)
-
-pub returns-in-Err-clause-err : goal.returns-in-Err-clause-err
-returns-in-Err-clause-err c = grind (arith, common_steps)
-
-pub returns-in-Err-clause-whole : goal.returns-in-Err-clause-whole
-returns-in-Err-clause-whole c = grind (arith, common_steps)
-
-pub returns-then-is_end-clause-err : goal.returns-then-is_end-clause-err
-returns-then-is_end-clause-err c = grind (arith, common_steps)
-
-pub returns-then-is_end-clause-whole : goal.returns-then-is_end-clause-whole
-returns-then-is_end-clause-whole c = grind (arith, common_steps)
-
-pub returns-clause-out : goal.returns-clause-out
-returns-clause-out c = grind (arith, common_steps)
-
-pub returns-clause-err : goal.returns-clause-err
-returns-clause-err c = grind (arith, common_steps)
-
-pub returns-clause-whole : goal.returns-clause-whole
-returns-clause-whole c = grind (arith, common_steps)
-
 pub returns-then-is_end-clause-out : goal.returns-then-is_end-clause-out
 returns-then-is_end-clause-out c =
     listed_last c.args.at c.loop-rest.labels.items c.loop-rest.offset c.in-Ok.count c.loop-rest.rest.now c.in-Ok.insn c.loop-rest.out.items
-    c.push_line.new.out.items
-    c.push_rest.new.out.items c.args.out.now.items (listed c.args.at c.args.program.now) (length c.split_at.result.1.now) (sym c.in-Ok.ensures.exact)
-    c.in-Ok.ensures.within.0
-    c.in-Ok.ensures.within.1 (sym c.if-is_end.ensures) c.deref.result.now c.deref.ensures.value c.in_ok-push_line-in-Ok.ensures.ok
-    (omega (arith, c.split_at.ensures.back_len))
-    c.in_ok-push_rest-in-Ok.ensures.ok c.loop-rest.invariant.text c.loop-rest.invariant.ending
+    c.push_line.new.out.items c.deref.result.now (sym c.in-Ok.ensures.exact) c.in-Ok.ensures.within.0 c.in-Ok.ensures.within.1 c.deref.ensures.value
+    c.in_ok-push_line-in-Ok.ensures.ok c.push_rest.new.out.items c.args.out.now.items (listed c.args.at c.args.program.now) (length c.split_at.result.1.now)
+    (sym c.if-is_end.ensures) (omega (arith, c.split_at.ensures.back_len)) c.in_ok-push_rest-in-Ok.ensures.ok c.loop-rest.invariant.text
+    c.loop-rest.invariant.ending

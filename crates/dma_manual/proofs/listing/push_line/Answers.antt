@@ -1,5 +1,4 @@
 use Rattle.std.proofs.Common.{◌-◌, rules}
-use Rattle.dma_text.proofs.Begun.{begins_more}
 use Rattle.dma_manual.specs.{Listing.comment_text, Listing.indented, Listing.remarks_of, Insns.spelling}
 use Rattle.dma_manual.proofs.Listings.{line_joined}
 use Rattle.dma_manual.proofs.listing.push_line.Goals as goal
@@ -12,6 +11,3 @@ returns-clause-ok c =
     (λ width. comment_text width c.args.at c.args.offset (spelling c.args.insn.now) (remarks_of c.args.labels.now c.args.at c.args.offset c.args.insn.now))
     c.in_ok-push_indented.ensures.ok (search rules)
     (rw (c.requires, c.remarks_of-remarks.ensures) at c.push_comment.ensures.ok)
-
-pub returns-clause-begins : goal.returns-clause-begins
-returns-clause-begins c = begins_more _ _ _ c.push_indented.ensures.begins c.push_comment.ensures.begins
