@@ -6,7 +6,7 @@ use Rattle.dma_io.specs.{Answer.Prints, Answer.under_name, Answer.with_note, Com
 use Rattle.dma_manual.specs.Listing.{is_whole, listed, rest_text, stop_text}
 use Rattle.dma_manual.specs.{Assembled.program_of, Assembled.read_text, Errors.assembled_err, Notes.end_warning, Notes.form_note, Notes.hint, Pasted.Program}
 use Rattle.dma_manual.specs.{Pasted.pasted, Refusal.refusal, declared.forms.Form.Form, declared.pasted.Spelling.Spelling}
-use Rattle.dma_seeds.specs.{Answers.Races, Answers.RacesSeeds, Faults.run_message}
+use Rattle.dma_seeds.specs.{RaceReplies.Races, RaceReplies.RacesSeeds, Faults.run_message}
 use Rattle.dma_why.specs.{Laws.CirclesStayAfter, Why.why_printed}
 use Rattle.dma_trace.specs.{declared.options.TraceOptions.TraceOptions, Explained.Appends, Found.ShowsRam}
 use Rattle.dma330.specs.declared.command_line.Request.{Request}

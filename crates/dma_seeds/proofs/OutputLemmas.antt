@@ -2,7 +2,7 @@
 use Rattle.std.proofs.Common.{◌≡◌, ℕ, zero, suc, ◌+◌, ◌-◌, ◌<◌, ◌≤◌, ◌^◌, Bool, true, false, not, List, [], ◌∷◌, ◌++◌, length, get_or, set, Some, None, refl}
 use Rattle.std.proofs.Common.{ap, ap₂, sym, ◌∙◌, subst, arith, append-nil, inl, inr, map}
 use Rattle.std.specs.Prelude.{count_by, filter, if◌then◌else◌, position}
-use Rattle.std.specs.{List.All, List.list_any, List.position_or_len, List.range_with_len, Str.bytes_eq}
+use Rattle.std.specs.{List.All, List.list_any, List.range_with_len, Str.bytes_eq}
 use Rattle.std.proofs.{lemmas.Bool.cases_Bool, lemmas.Bool.cases_lt, lemmas.Bool.or_parts, lemmas.Bool.true≢false, lemmas.Grind.common_steps, lemmas.List.get_or-map}
 use Rattle.std.proofs.{lemmas.List.length-map, lemmas.List.map-append, lemmas.List.Elements.filter-append, lemmas.List.Folds.list_any_at, lemmas.List.FromFn.get_or-range_with_len}
 use Rattle.std.proofs.{lemmas.List.FromFn.length-range_with_len, lemmas.List.Quantifiers.position-Some, lemmas.List.Sums.count_by-le-length}
@@ -30,14 +30,10 @@ counted_nowhere (o ∷ os) new d none =
 
 pub counted_Some : (os : List Output) (new d : Output) (place : ℕ) → Some place ≡ position (has_text new) os
     → counted os new ≡ set os place (one_more (get_or os place d))
-counted_Some os new d place is =
-    let found = position-Some (has_text new) os place d (sym is) in
-    counted_here os new d place found.0 found.1 found.2
+counted_Some os new d place is = grind (arith, position-Some, counted_here)
 
 pub counted_None : (os : List Output) (new d : Output) → None ≡ position (has_text new) os → counted os new ≡ os ++ new ∷ []
-counted_None os new d is =
-    let all : length os ≤ position_or_len (has_text new) os = grind (arith, common_steps) in
-    counted_nowhere os new d (λ j below. fails_before_first (has_text new) os j d (omega (arith, all)))
+counted_None os new d is = grind (arith, common_steps, counted_nowhere, fails_before_first)
 
 -- ---- lists of seeds
 
@@ -66,8 +62,7 @@ count_none text t (x ∷ xs) none =
 
 none_in : (p : ℕ → Bool) (a k : ℕ) → ((s : ℕ) → a ≤ s → s < a + k → p s ≡ false) → list_any p (range_with_len a k) ≡ false
 none_in p a zero none = refl
-none_in p a (suc k) none =
-    rw (none a (omega arith) (omega arith)) (none_in p (a + 1) k (λ s low below. none s (omega (arith, low)) (omega (arith, below))))
+none_in p a (suc k) none = grind (arith, none_in p (a + 1) k)
 
 any_in : (p : ℕ → Bool) (a k s : ℕ) → a ≤ s → s < a + k → p s ≡ true → list_any p (range_with_len a k) ≡ true
 any_in p a k s low below is =
@@ -104,8 +99,7 @@ module _ (text : ℕ → List ℕ) (a n : ℕ) where
 
   -- a seed that gives this text is new unless one before it gives it
   new_here : (s : ℕ) → same s ≡ true → is_new text a s ≡ not (list_any same (range_with_len a (s - a)))
-  new_here s is =
-      ap (λ t. not (list_any (λ e. bytes_eq (text e) t) (range_with_len a (s - a)))) (same_bytes (text s) (text (a + n)) is)
+  new_here s is = grind (arith, same_bytes)
 
   -- behind a seed that gives this text, no seed is the first to give it
   behind : (b k s : ℕ) → a ≤ s → s < b → same s ≡ true → part n b k ≡ part (suc n) b k
@@ -173,16 +167,10 @@ outputs_next text a s os os' new after so_far is more =
     ∙ ap (counted (outputs_of text a (s - a))) (is ∙ ap (λ k. let o : Output = record { text = text k; seeds = 1; first = k } in o) (sym place))
     ∙ outputs_more text a (s - a) ∙ ap (outputs_of text a) next
 
--- no output is counted more often than there are seeds
-pub outputs_few : (text : ℕ → List ℕ) (a n : ℕ) → All (λ (o : Output). o.seeds ≤ n) (outputs_of text a n)
-outputs_few text a n k d less =
-    let seeds = filter (is_new text a) (range_with_len a n) in
-    let s = get_or seeds k 0 in
-    let many = count_by-le-length (λ other. bytes_eq (text s) (text other)) (range_with_len a n) in
-    subst (λ (o : Output). o.seeds ≤ n) (sym (get_or-map (output_of text a n) seeds k 0 d (omega (arith, less, length-map seeds (output_of text a n)))))
-    (omega (arith, many, length-range_with_len a n))
-
--- so one more seed can be counted
+-- one more seed can be counted
 pub outputs_room : (text : ℕ → List ℕ) (a n : ℕ) (os : List Output) → n < 2 ^ 64 - 1 → os ≡ outputs_of text a n → All (λ (o : Output). o.seeds < 2 ^ 64 - 1) os
 outputs_room text a n os few is k d less =
-    omega (arith, subst (λ (l : List Output). (get_or l k d).seeds ≤ n) (sym is) (outputs_few text a n k d (omega (arith, less, ap length is))))
+    let seeds = filter (is_new text a) (range_with_len a n) in
+    let there : k < length seeds = omega (arith, less, ap length is, length-map seeds (output_of text a n)) in
+    let many = count_by-le-length (λ other. bytes_eq (text (get_or seeds k 0)) (text other)) (range_with_len a n) in
+    rw (is, get_or-map (output_of text a n) seeds k 0 d there) (omega (arith, few, many, length-range_with_len a n))

@@ -1,11 +1,11 @@
 -- What the lines and the turns of a race do.
-use Rattle.std.proofs.Common.{◌≡◌, ℕ, ◌+◌, ◌≤◌, List, [], ◌∷◌, ◌++◌, drop, length, length-append, map, Result, Ok, Err, inl, refl, ap, sym, subst, ◌∙◌, arith}
+use Rattle.std.proofs.Common.{◌≡◌, ℕ, ◌+◌, ◌≤◌, List, [], ◌∷◌, ◌++◌, drop, length, length-append, map, Result, Ok, Err, inl, refl, ap, subst, ◌∙◌, arith}
 use Rattle.std.proofs.Common.{append-nil, append_assoc}
 use Rattle.std.specs.List.{sum, sum_by}
 use Rattle.std.proofs.{Math.Seq.drop-append_seam, Math.Seq.take-append_seam, lemmas.List.map-append, lemmas.List.Sums.sum_by-cons}
-use Rattle.dma_engine.specs.Turn.{Stepped, finishes_in, steps_in, turn}
-use Rattle.dma_engine.specs.{declared.fault.EngineFault.EngineFault, declared.turn.Turn.Turn, declared.turn.Turn.TheVariants.Moved}
-use Rattle.dma_engine.specs.{declared.turn.Turn.TheVariants.Finished, Interleaved.JobTurn, Interleaved.turns_taken, View.View}
+use Rattle.dma_engine.specs.Turn.{finishes_in, steps_in, turn}
+use Rattle.dma_engine.specs.{declared.fault.EngineFault.EngineFault, declared.turn.Turn.Turn}
+use Rattle.dma_engine.specs.{Interleaved.JobTurn, Interleaved.turns_taken, View.View}
 use Rattle.dma_io.specs.Command.{printed_text, text_of}
 use Rattle.dma_script.specs.Interpreted.{ActsInTurn, PrintsLines}
 use Rattle.dma_script.specs.{Race.race_script_of, declared.fault.Fault.Fault, declared.race.RaceScript.RaceScript, declared.statements.Statement.Statement}
@@ -13,7 +13,7 @@ use Rattle.dma_script.proofs.InterpretedLemmas.{printed_text_append}
 use Rattle.dma_commands.specs.Raced.{EarlyPrints, first_view, from_go, go_line, race_prints_of, whole}
 use Rattle.dma_commands.specs.{Left.lines_left, Left.view_after, Run.line_answer, Run.lines_answered}
 use Rattle.dma_seeds.specs.{Race.SeedsAreRaces, Race.early_lines, Race.race_printed_of, Race.raced, Seeds.text_from_go, Turns.turns_of_seed}
-use Rattle.dma_seeds.specs.{inner.Measured.Prints, inner.Measured.lengths_of, inner.Measured.pieces, inner.Started.IsStarted}
+use Rattle.dma_seeds.specs.{inner.Measured.Prints, inner.Measured.lengths_of, inner.Measured.pieces, inner.Started.RacedFrom}
 use Rattle.dma_seeds.proofs.TurnLemmas.{seeds_interleave_law}
 
 -- ---- lines that were measured
@@ -31,8 +31,7 @@ pub record Measured (v w : View) (lines : List Statement) (groups : List (List (
 
 pub measured_in_turn : {S : Type 0} (seen : S → View) (lengths : S → List ℕ) (lines : List Statement) (found left : S) (groups : List (List (List ℕ)))
     → ActsInTurn (MeasuresSeen seen lengths) lines found groups left → Measured (seen found) (seen left) lines groups (lengths found) (lengths left)
-measured_in_turn seen lengths [] found left [] done =
-    record { groups_are = refl; left = ap seen done; lengths_are = ap lengths done ∙ sym (append-nil (lengths found)) }
+measured_in_turn seen lengths [] found left [] done = grind (arith, append-nil)
 measured_in_turn seen lengths [] found left (g ∷ groups) done = absurd done
 measured_in_turn seen lengths (line ∷ lines) found left [] done = absurd done
 measured_in_turn seen lengths (line ∷ lines) found left (g ∷ groups) (next, (acts, longer), rest) =
@@ -46,17 +45,11 @@ measured_in_turn seen lengths (line ∷ lines) found left (g ∷ groups) (next, 
 -- measured lines print their answers
 pub measured_prints : {S : Type 0} (seen : S → View) (lengths : S → List ℕ) (lines : List Statement) (found left : S) (old new : List ℕ)
     → PrintsLines (MeasuresSeen seen lengths) found lines left old new → Prints (lines_answered (seen found) lines) old new (lengths found) (lengths left)
-measured_prints seen lengths lines found left old new done =
-    let all = measured_in_turn seen lengths lines found left done.groups done.acted in
-    record {
-      appended = done.text ∙ ap (λ g. old ++ printed_text g) all.groups_are;
-      measured = all.lengths_are ∙ ap (λ g. lengths found ++ lengths_of g) all.groups_are;
-    }
+measured_prints seen lengths lines found left old new done = grind (arith, measured_in_turn)
 
 pub measured_left : {S : Type 0} (seen : S → View) (lengths : S → List ℕ) (lines : List Statement) (found left : S) (old new : List ℕ)
     → PrintsLines (MeasuresSeen seen lengths) found lines left old new → seen left ≡ lines_left (seen found) lines
-measured_left seen lengths lines found left old new done =
-    (measured_in_turn seen lengths lines found left done.groups done.acted).left
+measured_left seen lengths lines found left old new done = grind (arith, measured_in_turn)
 
 -- ---- turns
 
@@ -71,17 +64,14 @@ pub record TookSome (v : View) (turns : List JobTurn) (w : View) (rest : List Jo
 
 -- a result counts at most one step, and a finish only with a step
 counts : (r : Result Turn EngineFault) → (finishes_in r ≤ steps_in r) × (steps_in r ≤ 1)
-counts (Ok Moved) = (omega arith, omega arith)
-counts (Ok (Finished cookie result residue)) = (omega arith, omega arith)
-counts _ = (omega arith, omega arith)
+counts r = grind (arith)
 
 abbrev Taken : Type 0
 Taken = List (Result Turn EngineFault) × View
 
 one_more : (w x : View) (t : JobTurn) (left : List JobTurn) (r : Result Turn EngineFault) → (r, x) ≡ turn w t.channel
     → turns_taken w (t ∷ left) ≡ (r ∷ (turns_taken x left).0, (turns_taken x left).1)
-one_more w x t left r is =
-    ap {B = Taken} (λ (a : Stepped). (a.0 ∷ (turns_taken a.1 left).0, (turns_taken a.1 left).1)) (sym is)
+one_more w x t left r is = grind arith
 
 pub took_none : (v : View) (turns : List JobTurn) → TookSome v turns v turns 0 0
 took_none v turns = record { left = refl; steps_are = omega arith; finished_are = omega arith; few = omega arith; fewer = omega arith }
@@ -105,21 +95,12 @@ took_more v w x turns rest left t steps finished steps' finished' r took split i
 
 -- first groups and others, as one
 pub prints_both : (front back : List (List (List ℕ))) (a b c l m n : List ℕ) → Prints front a b l m → Prints back b c m n → Prints (front ++ back) a c l n
-prints_both front back a b c l m n first last = record {
-  appended = last.appended ∙ ap (λ t. t ++ printed_text back) first.appended ∙ append_assoc a (printed_text front) (printed_text back)
-      ∙ ap (λ t. a ++ t) (sym (printed_text_append front back));
-  measured = last.measured ∙ ap (λ t. t ++ lengths_of back) first.measured ∙ append_assoc l (lengths_of front) (lengths_of back)
-      ∙ ap (λ t. l ++ t) (sym (map-append (λ group. length (text_of group)) front back));
-}
+prints_both front back a b c l m n first last = grind (arith, append_assoc, printed_text_append, map-append)
 
 -- the pieces of a text that was printed are the texts of its groups
 pub pieces_are : (groups : List (List (List ℕ))) → pieces (lengths_of groups) (printed_text groups) ≡ map text_of groups
 pieces_are [] = refl
-pieces_are (g ∷ groups) =
-    let first = take-append_seam (text_of g) (printed_text groups) in
-    let others = drop-append_seam (text_of g) (printed_text groups) in
-    ap (λ t. t ∷ pieces (lengths_of groups) (drop (length (text_of g)) (text_of g ++ printed_text groups))) first
-    ∙ ap (λ t. text_of g ∷ pieces (lengths_of groups) t) others ∙ ap (λ l. text_of g ∷ l) (pieces_are groups)
+pieces_are (g ∷ groups) = grind (arith, take-append_seam, drop-append_seam, pieces_are groups)
 
 -- the lengths make up the text
 pub lengths_add : (groups : List (List (List ℕ))) → sum (lengths_of groups) ≡ length (printed_text groups)
@@ -129,53 +110,30 @@ lengths_add (g ∷ groups) =
 
 -- a text that was printed alone
 pub pieces_printed : (groups : List (List (List ℕ))) (text lengths : List ℕ) → Prints groups [] text [] lengths → pieces lengths text ≡ map text_of groups
-pieces_printed groups text lengths p =
-    ap (λ t. pieces lengths t) p.appended ∙ ap (λ l. pieces l (printed_text groups)) p.measured ∙ pieces_are groups
+pieces_printed groups text lengths p = grind (arith, pieces_are)
 
 pub lengths_fit : (groups : List (List (List ℕ))) (text lengths : List ℕ) → Prints groups [] text [] lengths → sum lengths ≤ length text
 lengths_fit groups text lengths p = omega (arith, ap sum p.measured, ap length p.appended, lengths_add groups)
 
--- what is printed from `go` on, in the words of the script
-started_from : (script : RaceScript) (seed : ℕ) (v : View) (turns : List JobTurn) (after : List Statement) → IsStarted script seed v turns after
-    → from_go v turns after ≡ from_go (view_after script.before) (turns_of_seed script.jobs seed) script.after
-started_from script seed v turns after started = rw (started.view, started.turns_are, started.after_is) refl
+-- what a race printed: what its lines before `go` print, the line of `go`, and what the lines after it print
+pub raced_from : (v w x : View) (script : RaceScript) (turns : List JobTurn) (early : ℕ) (a b c d l m n o : List ℕ) → w ≡ lines_left v script.before.statements
+    → Prints (lines_answered v script.before.statements) a b l m → early ≡ length b → x ≡ (turns_taken w turns).1
+    → Prints ((go_line (turns_taken w turns).0 ∷ []) ∷ []) b c m n → Prints (lines_answered x script.after) c d n o → RacedFrom v script turns early a d l o
+raced_from v w x script turns early a b c d l m n o left first at on went last =
+    let behind = from_go (lines_left v script.before.statements) turns script.after in
+    let rest : Prints behind b d m o = subst (λ (y : View). Prints (from_go y turns script.after) b d m o) left
+    (prints_both _ _ b c d m n o went (subst (λ (y : View). Prints (lines_answered y script.after) c d n o) on last)) in
+    record {
+      all = prints_both _ behind a b d l m o first rest;
+      within = omega (arith, at, ap length rest.appended, length-append b (printed_text behind));
+      behind = ap (λ k. drop k d) at ∙ ap (drop (length b)) rest.appended ∙ drop-append_seam b (printed_text behind);
+    }
 
--- the memory line prints nothing
-pub started_prints : (script : RaceScript) (v : View) (a c l m n : List ℕ) → v ≡ first_view script → m ≡ l ++ 0 ∷ []
-    → Prints (lines_answered v script.before.statements) a c m n → Prints ([] ∷ early_lines script) a c l n
-started_prints script v a c l m n view first rest =
-    subst (λ (x : View). Prints ([] ∷ lines_answered x script.before.statements) a c l n) view
-    (record {
-      appended = rest.appended;
-      measured = rest.measured ∙ ap (λ t. t ++ lengths_of (lines_answered v script.before.statements)) first
-          ∙ append_assoc l (0 ∷ []) (lengths_of (lines_answered v script.before.statements));
-    })
-
--- the line of `go`, and then the lines after it
-pub go_and_after : (v w : View) (turns : List JobTurn) (after : List Statement) (a b c l m n : List ℕ) → w ≡ (turns_taken v turns).1
-    → Prints ((go_line (turns_taken v turns).0 ∷ []) ∷ []) a b l m → Prints (lines_answered w after) b c m n → Prints (from_go v turns after) a c l n
-go_and_after v w turns after a b c l m n left first last =
-    prints_both _ _ a b c l m n first (subst (λ (x : View). Prints (lines_answered x after) b c m n) left last)
-
--- what a race printed alone: what its lines before `go` print, and then the rest
-pub ran_alone : (script : RaceScript) (seed : ℕ) (v : View) (turns : List JobTurn) (after : List Statement) (a b c m n : List ℕ) → a ≡ []
-    → IsStarted script seed v turns after → Prints ([] ∷ early_lines script) a b [] m → Prints (from_go v turns after) b c m n
-    → Prints (raced script (turns_of_seed script.jobs seed)).groups [] c [] n
-ran_alone script seed v turns after a b c m n none started first last =
-    subst (λ t. Prints (raced script (turns_of_seed script.jobs seed)).groups t c [] n) none
-    (subst (λ (g : List (List (List ℕ))). Prints ([] ∷ early_lines script ++ g) a c [] n) (started_from script seed v turns after started)
-    (prints_both ([] ∷ early_lines script) (from_go v turns after) a b c [] m n first last))
-
--- what it printed from `go` on
-pub from_go_behind : (script : RaceScript) (seed early : ℕ) (v : View) (turns : List JobTurn) (after : List Statement) (b c m n : List ℕ) → early ≡ length b
-    → IsStarted script seed v turns after → Prints (from_go v turns after) b c m n
-    → (early ≤ length c) × (drop early c ≡ text_from_go (Ok script) seed)
-from_go_behind script seed early v turns after b c m n at started last =
-    let rest = printed_text (from_go v turns after) in (
-      omega (arith, at, ap length last.appended, length-append b rest),
-      ap (λ k. drop k c) at ∙ ap (drop (length b)) last.appended ∙ drop-append_seam b rest
-          ∙ ap printed_text (started_from script seed v turns after started),
-    )
+-- what one printed alone that began after its memory line, which prints nothing
+pub raced_alone : (script : RaceScript) (seed early : ℕ) (v : View) (turns : List JobTurn) (a c l n : List ℕ) → v ≡ first_view script
+    → turns ≡ turns_of_seed script.jobs seed → a ≡ [] → l ≡ 0 ∷ [] → RacedFrom v script turns early a c l n
+    → Prints (raced script (turns_of_seed script.jobs seed)).groups [] c [] n × (drop early c ≡ text_from_go (Ok script) seed)
+raced_alone script seed early v turns a c l n view order none first ran = grind arith
 
 -- ---- what `dmasim race` may print
 

@@ -24,12 +24,10 @@ use Rattle.dma_script.specs.declared.statements.Statement.TheVariants as stateme
 
 -- What holds of each value of a step after another, which succeeded.
 bind_eq : {A B E : Type 0} (P : B → Type 0) (r : Result A E) (f : A → Result B E) → ((a : A) → r ≡ Ok a → IfOk (f a) P) → IfOk (r >>= f) P
-bind_eq P (Ok a) f h = h a refl
-bind_eq P (Err e) f h = tt
+bind_eq P r f h = grind (arith)
 
 from_line : {S : Type 0} (n : ℕ) (r : Result S Cause) (y : S) → at_line n r ≡ Ok y → r ≡ Ok y
-from_line n (Ok x) y is = cc
-from_line n (Err e) y is = absurd cc
+from_line n r y h = grind (arith)
 
 pub option_cases : {A : Type 0} (o : Option A) → (o ≡ None) ⊎ ((a : A) × (o ≡ Some a))
 option_cases None = inl refl
@@ -82,8 +80,7 @@ pub record Follows (steps : List Statement) (before : Option RunScript) (after :
   pub plain : ArePlain ls
 
 memory_there : (before : Option RunScript) (u : Unit {0}) → behind_memory before ≡ Ok u → (b : RunScript) × (before ≡ Some b)
-memory_there None u is = absurd cc
-memory_there (Some b) u is = (b, refl)
+memory_there before u h = grind (arith)
 
 -- a line that `run` knows
 module _ (line word : List ℕ) (words : List (List ℕ)) (are : words_of line ≡ word ∷ words) (kept : (slice_index word 0 == 35) ≡ false)
@@ -93,19 +90,12 @@ module _ (line word : List ℕ) (words : List (List ℕ)) (are : words_of line �
 
 module _ (turns : List (List ℕ)) (steps : List Statement) (as_steps : ReadAsSteps turns steps) (turns_plain : ArePlain turns) where
   go_read : (before : Option RunScript) (b : RunScript) → before ≡ Some b → Reads before turns (state steps before (Some []))
-  go_read before b there =
-      subst (λ x. Reads x turns (state steps x (Some []))) (sym there)
-      (subst (λ s. Reads (Some b) turns (Some (record b { statements = s }))) (sym (append-nil (b.statements ++ steps))) (as_steps b))
+  go_read before b there = grind (arith, append-nil)
 
   later_read : (b : RunScript) (after : List Statement) (st : Statement) (line : List ℕ)
       → after_line run_step (state steps (Some b) (Some after)) line ≡ Ok (Some (record b { statements = ((b.statements ++ steps) ++ after) ++ st ∷ [] }))
       → Reads (state steps (Some b) (Some after)) (line ∷ []) (state steps (Some b) (Some (after ++ st ∷ [])))
-  later_read b after st line one = (
-    Some (record b { statements = ((b.statements ++ steps) ++ after) ++ st ∷ [] }),
-    one,
-    ap (λ s. Some (record b { statements = s }))
-        (sym (append_assoc (b.statements ++ steps) after (st ∷ []))),
-  )
+  later_read b after st line one = grind (arith, append_assoc)
 
   step_follows : (before : Option RunScript) (jobs : List JobLine) (after : Option (List Statement)) (line word : List ℕ) (words : List (List ℕ))
       → words_of line ≡ word ∷ words → (slice_index word 0 == 35) ≡ false → list_all is_plain line ≡ true → Begun before after
@@ -213,10 +203,7 @@ digit_read (suc (suc (suc (suc (suc (suc (suc (suc n)))))))) low b = absurd (ome
 turn_read : (ch : ℕ) → ch ≤ 7 → (b : RunScript)
     → (after_line run_step (Some b) (codes "step " ++ decimal ch) ≡ Ok (Some (record b { statements = b.statements ++ statements.Step ch 1 ∷ [] })))
     × (list_all is_plain (codes "step " ++ decimal ch) ≡ true)
-turn_read ch low b =
-    subst (λ (digits : List ℕ).
-    (after_line run_step (Some b) (codes "step " ++ digits) ≡ Ok (Some (record b { statements = b.statements ++ statements.Step ch 1 ∷ [] })))
-    × (list_all is_plain (codes "step " ++ digits) ≡ true)) (sym (decimal_digit ch (omega arith))) (digit_read ch low b)
+turn_read ch low b = grind (arith, decimal_digit, digit_read)
 
 steps_read : (turns : List JobTurn) → AreLow turns → ReadAsSteps (map turn_line turns) (map step_of turns)
 steps_read [] low b = ap (λ s. Some (record b { statements = s })) (append-nil b.statements)
@@ -235,24 +222,12 @@ steps_plain (t ∷ turns) b (low, rest) = ((turn_read t.channel low b).1, steps_
 -- ---- the text
 
 text_is : (turns : List (List ℕ)) (line : List ℕ) (words : List (List ℕ)) → text_for (text_of turns) line words ≡ text_of (lines_for turns line words)
-text_is turns line [] = refl
-text_is turns line (word ∷ words) = elim (cases_Bool (slice_index word 0 == 35)) [
-  | inl skip ↦ rw skip refl
-  | inr kept ↦ rw kept (elim (cases_Bool (bytes_eq word (codes "job"))) [
-    | inl job ↦ rw job refl
-    | inr other_word ↦ rw other_word
-        (elim (cases_Bool (bytes_eq word (codes "go"))) [ inl go ↦ rw go refl | inr other ↦ rw other (sym (append-nil (line ++ 10 ∷ []))) ])
-  ])
-]
+text_is turns line words = grind (arith, cases_Bool, append-nil)
 
 texts_are : (turns : List (List ℕ)) (ls : List (List ℕ))
     → flat_map (λ line. text_for (text_of turns) line (words_of line)) ls ≡ text_of (flat_map (λ line. lines_for turns line (words_of line)) ls)
 texts_are turns [] = refl
-texts_are turns (line ∷ rest) =
-    let here = lines_for turns line (words_of line) in
-    let others = flat_map (λ l. lines_for turns l (words_of l)) rest in
-    ap (λ t. t ++ flat_map (λ l. text_for (text_of turns) l (words_of l)) rest) (text_is turns line (words_of line))
-    ∙ ap (λ t. text_of here ++ t) (texts_are turns rest) ∙ sym (flat_map-append (λ line. line ++ 10 ∷ []) here others)
+texts_are turns (line ∷ rest) = grind (arith, text_is, flat_map-append, texts_are turns rest)
 
 -- ---- whole scripts
 
@@ -264,19 +239,10 @@ pub record ReadInParts (input : List ℕ) (script : RaceScript) : Type 0 where
   pub after : read.after ≡ Some script.after
 
 from_some : {A E : Type 0} (o : Option A) (e : E) (a : A) → ok_or o e ≡ Ok a → o ≡ Some a
-from_some None e a is = absurd cc
-from_some (Some x) e a is = cc
+from_some o e a h = grind (arith)
 
 parts_of : (input : List ℕ) → IfOk (race_script_of input) (ReadInParts input)
-parts_of input =
-    bind_eq (ReadInParts input) (after_lines race_step 0 nothing_read (lines input)) _
-    (λ read lines_are. bind_eq (ReadInParts input) (ok_or read.before _) _
-    (λ b before. bind_eq (ReadInParts input) (ok_or read.after _) _ (λ a after. record {
-      read = read;
-      lines_are = lines_are;
-      before = from_some read.before _ b before;
-      after = from_some read.after _ a after;
-    })))
+parts_of input = grind (arith, bind_eq, from_some)
 
 pub scripts_are_read : ScriptsAreRead
 scripts_are_read input script seed is =
@@ -290,7 +256,5 @@ scripts_are_read input script seed is =
     (lines_follow (map turn_line turns) steps (steps_read turns low) (steps_plain turns script.before low) 0 (lines input) nothing_read tt) in
     let text : script_text_of (race_script_of input) input seed ≡ text_of ls = ap (λ r. script_text_of r input seed) is
     ∙ texts_are (map turn_line turns) (lines input) in
-    let read : after_lines run_step 0 None (lines (text_of ls)) ≡ Ok (Some (as_run script turns)) =
-    ap (λ l. after_lines run_step 0 None l) (lines_text ls follows.plain)
-    ∙ reads_lines 0 None (Some (as_run script turns)) ls (rw (parts.before, parts.after) at follows.read) in
+    let read : after_lines run_step 0 None (lines (text_of ls)) ≡ Ok (Some (as_run script turns)) = grind (arith, lines_text, reads_lines) in
     ap run_script_of text ∙ rw read refl

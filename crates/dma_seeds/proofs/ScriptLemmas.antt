@@ -1,5 +1,6 @@
 -- A race as a run.
-use Rattle.std.proofs.Common.{List, [], ◌∷◌, ◌++◌, ℕ, ◌≡◌, ap, append_assoc, map, refl, sym, ◌∙◌}
+use Rattle.std.proofs.Common.{arith}
+use Rattle.std.proofs.Common.{List, [], ◌∷◌, ◌++◌, ℕ, ◌≡◌, ap, append_assoc, refl, sym, ◌∙◌}
 use Rattle.std.proofs.lemmas.List.Concat.{flat_map-append}
 use Rattle.dma_engine.specs.{Interleaved.JobTurn, Interleaved.turns_taken, View.View}
 use Rattle.dma_io.specs.Command.{Printed, text_of}
@@ -27,8 +28,4 @@ races_are_runs script turns =
 -- the text so far, with the line of the next turn
 pub turn_more : (all now new : List ℕ) (turn : JobTurn) (turns left : List JobTurn) → all ≡ now ++ turns_text turns → turns ≡ turn ∷ left
     → new ≡ now ++ text_of (turn_line turn ∷ []) → all ≡ new ++ turns_text left
-turn_more all now new turn turns left so_far split more =
-    so_far ∙ ap (λ l. now ++ turns_text l) split
-    ∙ ap (λ l. now ++ l) (flat_map-append (λ line. line ++ 10 ∷ []) (turn_line turn ∷ []) (map turn_line left))
-    ∙ sym (append_assoc now (text_of (turn_line turn ∷ [])) (turns_text left))
-    ∙ ap (λ l. l ++ turns_text left) (sym more)
+turn_more all now new turn turns left so_far split more = grind (arith, flat_map-append, append_assoc)

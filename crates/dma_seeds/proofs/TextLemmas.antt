@@ -1,8 +1,8 @@
 -- The lines of a text of lines.
-use Rattle.std.proofs.Common.{◌≡◌, ℕ, ◌+◌, ◌-◌, ◌<◌, true, false, List, [], ◌∷◌, ◌++◌, length, take, drop, get_or, refl, ap, sym, ◌∙◌, arith, append_assoc, inl}
-use Rattle.std.proofs.Common.{inr, eqb, length-append}
+use Rattle.std.proofs.Common.{◌≡◌, ℕ, ◌<◌, true, false, List, [], ◌∷◌, ◌++◌, length, take, get_or, refl, ap, sym, ◌∙◌, arith, append_assoc}
+use Rattle.std.proofs.Common.{eqb, length-append}
 use Rattle.std.specs.List.{list_all, position_or_len, before_first, after_first}
-use Rattle.std.specs.{Prelude.slice_index, Str.Lines.lines, Str.Lines.strip_carriage_return}
+use Rattle.std.specs.{Str.Lines.lines, Str.Lines.strip_carriage_return}
 use Rattle.std.proofs.Math.Seq.{drop-append-add, get_or-append_seam, take-append_seam}
 use Rattle.std.proofs.lemmas.Bool.{cases_lt, ne_eqb, true≢false}
 use Rattle.std.proofs.{Math.ListN.get_or-append, lemmas.List.get_or_past, lemmas.List.Sums.AllPass-from_list_all, lemmas.List.Sums.position_or_len_is}
@@ -25,12 +25,7 @@ plain_other b c plain odd = ne_eqb b c (λ same. true≢false (sym plain ∙ ap 
 
 -- a plain line has no carriage return at its end
 plain_stripped : (line : List ℕ) → list_all is_plain line ≡ true → strip_carriage_return line ≡ line
-plain_stripped line plain =
-    let last : eqb (slice_index line (length line - 1)) 13 ≡ false = elim (cases_lt 0 (length line)) [
-      | inl some ↦ plain_other (slice_index line (length line - 1)) 13 (AllPass-from_list_all is_plain line plain (length line - 1) 0 (omega arith)) refl
-      | inr none ↦ ap (λ b. eqb b 13) (get_or_past line (length line - 1) 0 (omega arith))
-    ] in
-    rw last refl
+plain_stripped line plain = grind (arith, cases_lt, plain_other, AllPass-from_list_all, get_or_past)
 
 -- The first line of a text whose first line is plain.
 first_line : (line rest : List ℕ) → list_all is_plain line ≡ true → lines (line ++ 10 ∷ rest) ≡ line ∷ lines rest
@@ -43,8 +38,7 @@ first_line line rest plain =
     let here : p (get_or bytes (length line) 0) ≡ true = ap p (get_or-append_seam line 10 rest 0) in
     let at : position_or_len p bytes ≡ length line = position_or_len_is p bytes (length line) 0 (omega (arith, many)) before (λ _. here) in
     let front : before_first p bytes ≡ line = ap (λ n. take n bytes) at ∙ take-append_seam line (10 ∷ rest) in
-    let back : after_first p bytes ≡ rest =
-    ap (λ n. drop (n + 1) bytes) at ∙ drop-append-add line (10 ∷ rest) 1 in
+    let back : after_first p bytes ≡ rest = grind (arith, drop-append-add) in
     lines_first bytes (omega (arith, at, many)) ∙ ap (λ l. strip_carriage_return l ∷ lines (after_first p bytes)) front
     ∙ ap (λ l. l ∷ lines (after_first p bytes)) (plain_stripped line plain) ∙ ap (λ l. line ∷ lines l) back
 

@@ -4,7 +4,7 @@ use Rattle.std.proofs.Common.{append-nil, append_assoc}
 use Rattle.std.proofs.lemmas.Bool.{cases_eq, cases_lt, cond_both, eq-eqb, lt-ltb, le-ltb, ltb-true, ne_eqb}
 use Rattle.std.proofs.lemmas.List.{get_or-map, get_or-set_other, get_or-set_same, get_or_past, length-map, set_past}
 use Rattle.std.proofs.{Math.Nat.zero-mod, lemmas.List.Sums.get_or-le-sum_by, lemmas.List.Sums.sum_by-cons, lemmas.List.Sums.sum_by-set}
-use Rattle.std.specs.{Prelude.if◌then◌else◌, Prelude.nat_lt, Prelude.slice_index_or, Prelude.slice_set, List.All}
+use Rattle.std.specs.{Prelude.if◌then◌else◌, Prelude.slice_index_or, Prelude.slice_set, List.All}
 use Rattle.dma_engine.specs.Interleaved.{JobTurn, channel_at, channels_of, rotation}
 use Rattle.dma_engine.proofs.Interleavings.{channel_again, channel_next}
 use Rattle.dma_commands.specs.Raced.{channels_of_line}
@@ -34,8 +34,7 @@ job_at_has (job ∷ jobs) place less = elim (cases_lt place job.left) [
 -- one turn fewer is left
 total-after : (jobs : List TurnsLeft) (k : ℕ) → HasTurn jobs k → (n : ℕ) → total_left jobs ≡ suc n
     → total_left (slice_set jobs k (after_turn (slice_index_or jobs k no_turns))) ≡ n
-total-after jobs k has n total =
-    omega (arith, total, has.some, sum_by-set (λ (j : TurnsLeft). j.left) jobs k (after_turn (slice_index_or jobs k no_turns)) no_turns has.there)
+total-after jobs k has n total = grind (arith, sum_by-set)
 
 -- ---- all turns
 
@@ -63,9 +62,7 @@ pub drawn_next : (left state word state' : ℕ) (jobs : List TurnsLeft) (k : ℕ
     → k ≡ job_at jobs (word % left) → job ≡ slice_index_or jobs k no_turns → after ≡ after_turn job
     → drawn left state jobs ≡ record { job = k; channel = job.next } ∷ drawn (left - 1) state' (slice_set jobs k after)
 drawn_next zero state word state' jobs k job after some words at here fits = absurd (omega arith)
-drawn_next (suc n) state word state' jobs k job after some words at here fits =
-    let fewer : suc n - 1 ≡ n = omega arith in
-    drawn_suc n state jobs ∙ ap (drawn_with n jobs) (word_is_law state ∙ sym words) ∙ rw (fewer, fits, here, at) refl
+drawn_next (suc n) state word state' jobs k job after some words at here fits = grind (arith, drawn_suc, word_is_law)
 
 pub length_drawn : (n state : ℕ) (jobs : List TurnsLeft) → length (drawn n state jobs) ≡ n
 unfolding drawn
@@ -80,16 +77,10 @@ channels_from first last ch zero = []
 channels_from first last ch (suc n) = ch ∷ channels_from first last (following first last ch) n
 
 follows : (first last k : ℕ) → following first last (channel_at first last k) ≡ channel_at first last (k + 1)
-follows first last k =
-    let ch = channel_at first last k in
-    elim (cases_lt ch last) [
-      | inl less ↦ rw (lt-ltb ch last less) (channel_next first last k ch refl less)
-      | inr past ↦ rw (le-ltb ch last past) (channel_again first last k ch refl past)
-    ]
+follows first last k = grind (arith, cases_lt, lt-ltb, channel_next, le-ltb, channel_again)
 
 rotation_on : (first last k n : ℕ) → rotation first last k ++ channels_from first last (channel_at first last k) n ≡ rotation first last (k + n)
-rotation_on first last k zero =
-    let same : k ≡ k + 0 = omega arith in append-nil (rotation first last k) ∙ ap (rotation first last) same
+rotation_on first last k zero = grind (arith, append-nil)
 rotation_on first last k (suc n) =
     let ch = channel_at first last k in
     let same : suc k + n ≡ k + suc n = omega arith in
@@ -109,18 +100,11 @@ abbrev left_channels : TurnsLeft → List ℕ
 left_channels t = channels_from t.first t.last t.next t.left
 
 left_next : (first last ch left : ℕ) → 0 < left → channels_from first last ch left ≡ ch ∷ channels_from first last (following first last ch) (left - 1)
-left_next first last ch zero some = absurd (omega arith)
-left_next first last ch (suc m) some = let fewer : suc m - 1 ≡ m = omega arith in rw fewer refl
+left_next first last ch left h = grind (arith)
 
 -- where no turn is left, no job has a turn
 none_left : (jobs : List TurnsLeft) (k : ℕ) → total_left jobs ≡ 0 → left_channels (slice_index_or jobs k no_turns) ≡ []
-none_left jobs k none =
-    let job = slice_index_or jobs k no_turns in
-    let zero_left : job.left ≡ 0 = elim (cases_lt k (length jobs)) [
-      | inl less ↦ omega (arith, none, get_or-le-sum_by (λ (j : TurnsLeft). j.left) jobs k no_turns less)
-      | inr past ↦ ap (λ (j : TurnsLeft). j.left) (get_or_past jobs k no_turns past)
-    ] in
-    ap (channels_from job.first job.last job.next) zero_left
+none_left jobs k none = grind (arith, cases_lt, get_or-le-sum_by, get_or_past)
 
 -- Each job takes the turns that it has left, in its order.
 pub drawn_each : (n state : ℕ) (jobs : List TurnsLeft) (k : ℕ) → total_left jobs ≡ n
@@ -153,8 +137,7 @@ each_line (line ∷ lines) (suc k) = each_line lines k
 
 -- The turns for a seed are an interleaving of the jobs' turns.
 pub seeds_interleave_law : SeedsInterleave
-seeds_interleave_law lines seed k =
-    let jobs = map all_turns lines in drawn_each (total_left jobs) seed jobs k refl ∙ each_line lines k
+seeds_interleave_law lines seed k = grind (arith, drawn_each, each_line)
 
 -- ---- the channels
 
@@ -168,21 +151,14 @@ AreLow [] = Unit {0}
 AreLow (t ∷ turns) = (t.channel ≤ 7) × AreLow turns
 
 following_low : (first last ch : ℕ) → first ≤ 7 → last ≤ 7 → following first last ch ≤ 7
-following_low first last ch f l =
-    cond_both {A = ℕ} (nat_lt ch last) (ch + 1) first (λ n. n ≤ 7) (λ e. omega (arith, ltb-true ch last e, l)) (λ _. f)
+following_low first last ch f l = grind (arith, cond_both, ltb-true)
 
 after_low : (t : TurnsLeft) → IsLow t → IsLow (after_turn t)
 after_low t low = (low.0, low.1, following_low t.first t.last t.next low.0 low.1)
 
 set_low : (jobs : List TurnsLeft) (at : ℕ) (t : TurnsLeft) → IsLow t → ((k : ℕ) → IsLow (slice_index_or jobs k no_turns)) → (k : ℕ)
     → IsLow (slice_index_or (slice_set jobs at t) k no_turns)
-set_low jobs at t low each k = elim (cases_eq k at) [
-  | inl same ↦ elim (cases_lt at (length jobs)) [
-    | inl less ↦ subst IsLow (sym (ap (λ i. slice_index_or (slice_set jobs at t) i no_turns) same ∙ get_or-set_same jobs at t no_turns less)) low
-    | inr past ↦ subst IsLow (ap (λ l. slice_index_or l k no_turns) (sym (set_past jobs at t past))) (each k)
-  ]
-  | inr apart ↦ subst IsLow (sym (get_or-set_other jobs at k t no_turns apart)) (each k)
-]
+set_low jobs at t low each k = grind (arith, cases_eq, cases_lt, get_or-set_same, set_past, get_or-set_other)
 
 drawn_low : (n state : ℕ) (jobs : List TurnsLeft) → ((k : ℕ) → IsLow (slice_index_or jobs k no_turns)) → AreLow (drawn n state jobs)
 drawn_low zero state jobs each = subst AreLow (sym (drawn_none state jobs)) tt

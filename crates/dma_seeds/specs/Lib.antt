@@ -7,5 +7,5 @@ pub mod Expect
 pub mod Script
 pub mod Seeds
 pub mod Faults
-pub mod Answers
+pub mod RaceReplies
 pub mod inner

@@ -9,14 +9,12 @@ ghost use Rattle.dma_io.specs.Answer.{prints_of};
 ghost use Rattle.dma_script.specs.Race.{IsRace};
 ghost use Rattle.dma_script.specs.Statements.{IsWithin};
 ghost use Rattle.dma_commands.specs.Left.{lines_left};
-ghost use Rattle.dma_commands.specs.Raced.{first_view, from_go, go_line};
+ghost use Rattle.dma_commands.specs.Raced.{go_line};
 ghost use Rattle.dma_commands.specs.Run.{line_answer, lines_answered};
-ghost use Rattle.dma_seeds.specs.Answers.{Races};
+ghost use Rattle.dma_seeds.specs.RaceReplies.{Races};
 ghost use Rattle.dma_seeds.specs.Expect.{is_good, verdict_text};
-ghost use Rattle.dma_seeds.specs.Race.{early_lines};
-ghost use Rattle.dma_seeds.specs.Turns.{turns_of_seed};
 ghost use Rattle.dma_seeds.specs.inner.Measured.{Prints};
-ghost use Rattle.dma_seeds.specs.inner.Started.{IsRaceOutput, IsStarted};
+ghost use Rattle.dma_seeds.specs.inner.Started.{IsRaceOutput, RacedFrom};
 
 use crate::expect::{Verdict, lines_verdict, without_expects};
 use crate::faults::refused;
@@ -34,7 +32,7 @@ use std::alloc::{AllocError, Global};
 
 /// An engine, and the length of what each line of a script printed that was executed on it.
 #[derive(Drop)]
-pub(crate) struct MeasuredEngine {
+struct MeasuredEngine {
     engine: Engine,
     lengths: Vec<usize>,
 }
@@ -127,6 +125,7 @@ fn take_turn(engine: &mut Engine, ch: u8) -> Result<Result<Turn, EngineFault>, A
 }
 
 /// Takes the turns one after another. Fails if memory runs out.
+#[tactic(auto, using(crate::proofs::RaceLemmas::took_more, crate::proofs::RaceLemmas::took_none))]
 fn take_turns(engine: &mut Engine, turns: Turns) -> Result<Totals, AllocError>
     ensures left { OnOk result (engine.new.view ≡ (turns_taken engine.old.view turns).1) }
     ensures steps { IfOk result (λ totals. totals.steps
@@ -146,65 +145,6 @@ fn take_turns(engine: &mut Engine, turns: Turns) -> Result<Totals, AllocError>
         totals.count(turned);
     }
     Ok(totals)
-}
-
-/// A race whose lines before `go` were executed, with the turns of its jobs.
-#[derive(Drop)]
-pub(crate) struct StartedRace {
-    measured: MeasuredEngine,
-    turns: Turns,
-    after: Statements,
-}
-
-/// Returns a new engine for a race script, and the turns of its jobs in the order that a seed determines. Fails if
-/// memory runs out.
-fn opened(
-    alloc: Global,
-    script: &RaceScript,
-    seed: u64,
-) -> Result<(MeasuredEngine, Turns), AllocError>
-    requires { IsRace script.now }
-    ensures view { IfOk result (λ opened. opened.0.engine.view ≡ first_view script.now) }
-    ensures lengths { IfOk result (λ opened. opened.0.lengths.items ≡ 0 ∷ []) }
-    ensures turns { IfOk result (λ opened. opened.1 ≡ turns_of_seed script.now.jobs seed) }
-{
-    let turns = Turns::of_seed(alloc, script.jobs.as_slice(), seed)?;
-    let measured = MeasuredEngine::new(alloc, &script.before)?;
-    Ok((measured, turns))
-}
-
-/// Executes the lines of a race script before `go`, and appends what they print. Returns the race with its turns in the
-/// order that a seed determines. Fails if memory runs out.
-pub(crate) fn start(
-    alloc: Global,
-    script: RaceScript,
-    seed: u64,
-    out: &mut Vec<u8>,
-) -> Result<StartedRace, AllocError>
-    requires { IsRace script }
-    ensures race { IfOk result
-        (λ race. IsStarted script seed race.measured.engine.view race.turns race.after) }
-    ensures text { IfOk result (λ race. Prints ([] ∷ early_lines script)
-        out.old.items out.new.items [] race.measured.lengths.items) }
-{
-    let (measured, turns) = opened(alloc, &script, seed)?;
-    let RaceScript {
-        before,
-        jobs: _,
-        after,
-    } = script;
-    let mut race = StartedRace {
-        measured,
-        turns,
-        after,
-    };
-    match run_measured(before.statements, &mut race.measured, out) {
-        Ok(()) => Ok(race),
-        Err(error) => {
-            drop(race);
-            Err(error)
-        }
-    }
 }
 
 /// Appends the line of `go`, and its length. Fails if memory runs out.
@@ -235,40 +175,27 @@ impl MeasuredEngine {
         print_go(totals, out, &mut self.lengths)
     }
 
-    /// Takes the turns, executes the lines after `go`, and appends what is printed from the line of `go` on. Fails if
-    /// memory runs out.
-    fn finish(
+    /// Executes a race script with its turns in this order, and appends what it prints. Returns how long the text in front
+    /// of the line of `go` is. Fails if memory runs out.
+    fn run(
         &mut self,
+        script: RaceScript,
         turns: Turns,
-        after: Statements,
         out: &mut Vec<u8>,
-    ) -> Result<(), AllocError>
-        ensures { OnOk result (Prints (from_go self.old.engine.view turns after)
+    ) -> Result<usize, AllocError>
+        ensures { IfOk result (λ early. RacedFrom self.old.engine.view script turns early
             out.old.items out.new.items self.old.lengths.items self.new.lengths.items) }
     {
-        self.go(turns, out)?;
-        run_measured(after, self, out)
-    }
-}
-
-impl StartedRace {
-    /// Takes the turns, executes the lines after `go`, and appends what is printed from the line of `go` on. Returns
-    /// the length of what each line of the script printed. Fails if memory runs out.
-    pub(crate) fn finish(self, out: &mut Vec<u8>) -> Result<Vec<usize>, AllocError>
-        ensures { IfOk result (λ lengths. Prints
-            (from_go self.measured.engine.view self.turns self.after)
-            out.old.items out.new.items self.measured.lengths.items lengths.items) }
-    {
-        let StartedRace {
-            mut measured,
-            turns,
+        let RaceScript {
+            before,
+            jobs: _,
             after,
-        } = self;
-        let finished = measured.finish(turns, after, out);
-        let MeasuredEngine { engine, lengths } = measured;
-        drop(engine);
-        finished?;
-        Ok(lengths)
+        } = script;
+        run_measured(before.statements, self, out)?;
+        let early = out.len();
+        self.go(turns, out)?;
+        run_measured(after, self, out)?;
+        Ok(early)
     }
 }
 
@@ -294,10 +221,13 @@ pub(crate) fn run_race(
     ensures { IfOk result
         (λ ran. IsRaceOutput script.now race seed ran.text.items ran.early ran.verdict) }
 {
+    let turns = Turns::of_seed(alloc, race.jobs.as_slice(), seed)?;
+    let mut measured = MeasuredEngine::new(alloc, &race.before)?;
     let mut text = Vec::new(alloc);
-    let started = start(alloc, race, seed, &mut text)?;
-    let early = text.len();
-    let lengths = started.finish(&mut text)?;
+    let ran = measured.run(race, turns, &mut text);
+    let MeasuredEngine { engine, lengths } = measured;
+    drop(engine);
+    let early = ran?;
     let verdict = lines_verdict(alloc, seed, script, &text, &lengths)?;
     Ok(Ran {
         text,

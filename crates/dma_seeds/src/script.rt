@@ -13,6 +13,7 @@ use dma_text::bytes::is_text;
 use std::alloc::{AllocError, Global};
 
 /// Returns the lines of turns, a `step` for each. Fails if memory runs out.
+#[tactic(auto, using(crate::proofs::ScriptLemmas::turn_more))]
 fn text_of_turns(alloc: Global, turns: Turns) -> Result<Vec<u8>, AllocError>
     ensures { IfOk result (λ text. text.items ≡ turns_text turns) }
 {

@@ -4,7 +4,7 @@ ghost use Rattle.std.specs.Prelude.{◌≡◌, ◌<◌, ◌++◌, ◌+◌, ◌-�
 ghost use Rattle.dma_text.specs.Text.{Begins};
 ghost use Rattle.dma_io.specs.Answer.{prints_of};
 ghost use Rattle.dma_script.specs.Race.{race_script_of};
-ghost use Rattle.dma_seeds.specs.Answers.{RacesSeeds};
+ghost use Rattle.dma_seeds.specs.RaceReplies.{RacesSeeds};
 ghost use Rattle.dma_seeds.specs.Expect.{is_good, verdict, without_expects};
 ghost use Rattle.dma_seeds.specs.Seeds.{failing_text, outputs_of, outputs_text, seeds_verdict_text, text_from_go, unless_holds, verdicts};
 ghost use Rattle.dma_seeds.specs.inner.Counted.{failing_in};

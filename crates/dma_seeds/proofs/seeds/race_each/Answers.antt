@@ -1,24 +1,15 @@
-use Rattle.std.proofs.Common.{◌≡◌, ◌∙◌, ◌+◌, ◌-◌, ap, arith}
+use Rattle.std.proofs.Common.{◌+◌, arith}
 use Rattle.dma_script.specs.Race.{race_script_of}
-use Rattle.dma_seeds.specs.{Expect.verdict, Seeds.outputs_of, Seeds.text_from_go}
-use Rattle.dma_seeds.proofs.ExpectLemmas.{counted_all, counted_more, counted_none}
+use Rattle.dma_seeds.specs.{Expect.verdict, Seeds.text_from_go}
+use Rattle.dma_seeds.proofs.ExpectLemmas.{counted_more, counted_none}
 use Rattle.dma_seeds.proofs.OutputLemmas.{outputs_next, outputs_room}
 use Rattle.dma_seeds.proofs.seeds.race_each.Goals as goal
 
 pub loop-seed-init : goal.loop-seed-init
-loop-seed-init g c =
-    let none : 0 ≡ c.from-seed.result - c.args.seeds.first = omega arith in
-    record {
-      same = c.new-outputs.ensures.items ∙ ap (outputs_of (text_from_go (race_script_of c.args.kept.now)) c.args.seeds.first) none;
-      few = omega arith;
-      counted = counted_none (verdict c.args.script.now) c.args.seeds.first (c.args.seeds.last + 1) _ (omega arith);
-    }
+loop-seed-init g c = grind (arith, counted_none)
 
 pub count_output-requires : goal.count_output-requires
-count_output-requires g c =
-    let l = c.loop-seed in
-    outputs_room (text_from_go (race_script_of c.args.kept.now)) c.args.seeds.first (l.seed - c.args.seeds.first) l.outputs.items (omega arith)
-    l.invariant.same
+count_output-requires g c = grind (arith, outputs_room)
 
 pub loop-seed-preserved : goal.loop-seed-preserved
 loop-seed-preserved g c =
@@ -32,12 +23,7 @@ loop-seed-preserved g c =
     }
 
 pub returns-clause-outputs : goal.returns-clause-outputs
-returns-clause-outputs g c =
-    let l = c.loop-seed in
-    let all : l.seed - c.args.seeds.first ≡ c.args.seeds.last + 1 - c.args.seeds.first = omega arith in
-    l.invariant.same ∙ ap (outputs_of (text_from_go (race_script_of c.args.kept.now)) c.args.seeds.first) all
+returns-clause-outputs g c = grind arith
 
 pub returns-clause-verdicts : goal.returns-clause-verdicts
-returns-clause-verdicts g c =
-    let l = c.loop-seed in
-    counted_all (verdict c.args.script.now) c.args.seeds.first (c.args.seeds.last + 1) l.seed l.found (omega arith) l.invariant.counted
+returns-clause-verdicts g c = grind arith
