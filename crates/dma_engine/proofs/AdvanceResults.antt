@@ -1,5 +1,5 @@
 -- Consecutive steps of a channel, taken apart: the result of each, and what they add.
-use Rattle.std.proofs.Common.{◌≡◌, ℕ, zero, suc, ◌+◌, ◌*◌, ◌<◌, ◌≤◌, List, [], ◌∷◌, ◌++◌, Option, Some, None, length, map, sum_by, refl, ap, sym, ◌∙◌, subst}
+use Rattle.std.proofs.Common.{◌≡◌, ℕ, zero, suc, ◌+◌, ◌*◌, ◌<◌, ◌≤◌, List, [], ◌∷◌, ◌++◌, Option, Some, None, length, map, sum_by, refl, ap, ◌∙◌, subst}
 use Rattle.std.proofs.Common.{arith, append-nil, append_assoc}
 use Rattle.std.specs.{Prelude.if◌then◌else◌, Prelude.is_some, Prelude.replicate, Prelude.Result, Prelude.Ok, Option.option_map_or}
 use Rattle.std.proofs.{lemmas.List.length-append, lemmas.List.length-replicate, lemmas.List.Folds.sum_by-replicate, lemmas.List.Sums.sum_by-cons}
@@ -9,7 +9,7 @@ use Rattle.dma_engine.specs.Advance.{EndsWith, IsAdvance, after_steps, finishes_
 use Rattle.dma_engine.specs.Answer.{CallAnswers, StepAnswers, answer, answers, reply_of}
 use Rattle.dma_engine.specs.{declared.call.Reply.TheVariants.Turned, declared.fault.EngineFault.EngineFault, declared.turn.Advanced.Advanced}
 use Rattle.dma_engine.specs.{declared.turn.Turn.Turn, declared.turn.Turn.TheVariants.Started, declared.turn.Turn.TheVariants.Moved, Laws.Adds, Laws.ticks_in}
-use Rattle.dma_engine.specs.{Object.finished_all, Ticks.Tick, Ticks.ticks_of, Turn.finishes_in, Turn.steps_in, View.View, View.object_of}
+use Rattle.dma_engine.specs.{Ticks.Tick, Ticks.ticks_of, Turn.finishes_in, Turn.steps_in, View.View}
 use Rattle.dma_engine.proofs.{AnswerCounts.steps_add, JoinedCalls.answer_is_one}
 
 abbrev Results : Type 0
@@ -60,47 +60,37 @@ one_step_more [] v u w ch r same h = (w, subst (λ x. StepAnswers x ch r w) same
 one_step_more (x ∷ rs) v u w ch r (next, first, rest) h = (next, first, one_step_more rs next u w ch r rest h)
 
 before_length : (o : Option ℕ) (m : ℕ) → length (results_before o m) ≡ (if is_some o then 1 else 0) + m
-before_length None m = length-replicate {A = Result Turn EngineFault} m (Ok Moved) ∙ omega arith
-before_length (Some cookie) m = omega (arith, length-replicate {A = Result Turn EngineFault} m (Ok Moved))
+before_length o m = grind (arith, length-replicate)
 
 before_replies : (o : Option ℕ) (m : ℕ)
     → map (reply_of Turned) (results_before o m) ≡ option_map_or (λ cookie. Turned (Started cookie) ∷ []) o [] ++ replicate m (Turned Moved)
-before_replies None m = map_replicate (reply_of Turned) m (Ok Moved)
-before_replies (Some cookie) m = ap (λ l. Turned (Started cookie) ∷ l) (map_replicate (reply_of Turned) m (Ok Moved))
+before_replies o m = grind (arith, map_replicate)
 
 last_step : (o : Option (Result Turn EngineFault)) (rs : List (Result Turn EngineFault)) (v u w : View) (ch n most : ℕ) → AreSteps v ch rs u
     → EndsWith u ch n most o w → AreSteps v ch (rs ++ last_results o) w
-last_step None rs v u w ch n most h e = subst (λ l. AreSteps v ch l w) (sym (append-nil rs)) (subst (AreSteps v ch rs) (sym e.1) h)
-last_step (Some r) rs v u w ch n most h e = one_step_more rs v u w ch r h e.2
+last_step o rs v u w ch n most h h2 = grind (arith, append-nil, one_step_more)
 
 pub advance_steps : (v w : View) (ch most : ℕ) (a : Advanced) → IsAdvance v ch most a w → AreSteps v ch (results_of a) w
 advance_steps v w ch most a h =
     let rs = results_before a.started a.moved in
     let n = before_length a.started a.moved in
-    let replies : (answers v (replicate (length rs) (Step ch))).0 ≡ map (reply_of Turned) rs =
-    ap (λ (k : ℕ). (answers v (replicate k (Step ch))).0) n ∙ h.before ∙ sym (before_replies a.started a.moved) in
+    let replies : (answers v (replicate (length rs) (Step ch))).0 ≡ map (reply_of Turned) rs = grind (arith, before_replies) in
     let steps = replied_steps rs v ch replies in
     last_step a.last rs v (after_steps v ch (steps_before a)) w ch (steps_before a) most (subst (λ k. AreSteps v ch rs (after_steps v ch k)) n steps) h.last
 
 -- ---- how many there are, and what they count
 
 pub results_length : (a : Advanced) → length (results_of a) ≡ steps_taken a
-results_length a = length-append (results_before a.started a.moved) _ ∙ by a.last where
-  by : (o : Option (Result Turn EngineFault))
-      → length (results_before a.started a.moved) + length (last_results o) ≡ steps_before a + (if is_some o then 1 else 0)
-  by None = omega (arith, before_length a.started a.moved)
-  by (Some r) = omega (arith, before_length a.started a.moved)
+results_length a = grind (arith, length-append, before_length)
 
 -- a count of results that is one for a move and none for a start
 sums : (f : Result Turn EngineFault → ℕ) (m : ℕ) (o : Option ℕ) → ((cookie : ℕ) → f (Ok (Started cookie)) ≡ 0)
     → sum_by f (results_before o m) ≡ m * f (Ok Moved)
-sums f m None none = sum_by-replicate f m (Ok Moved)
-sums f m (Some cookie) none = omega (arith, sum_by-cons f (Ok (Started cookie)) (replicate m (Ok Moved)), none cookie, sum_by-replicate f m (Ok Moved))
+sums f m o h = grind (arith, sum_by-replicate, sum_by-cons)
 
 with_last : (f : Result Turn EngineFault → ℕ) (rs : List (Result Turn EngineFault)) (o : Option (Result Turn EngineFault))
     → sum_by f (rs ++ last_results o) ≡ sum_by f rs + option_map_or f o 0
-with_last f rs None = ap (sum_by f) (append-nil rs) ∙ omega arith
-with_last f rs (Some r) = sum_by_push f rs r
+with_last f rs o = grind (arith, sum_by, append-nil, sum_by_push)
 
 pub results_steps : (a : Advanced) → sum_by steps_in (results_of a) ≡ steps_counted a
 results_steps a = omega (arith, with_last steps_in (results_before a.started a.moved) a.last, sums steps_in a.moved a.started (λ _. refl))
@@ -117,11 +107,7 @@ ticks_in_all ch (r ∷ rs) = ticks_in ch r ++ ticks_in_all ch rs
 steps_add_all : (rs : List (Result Turn EngineFault)) (v w : View) (ch : ℕ) → AreSteps v ch rs w
     → Adds v w (ticks_in_all ch rs) (sum_by steps_in rs) (sum_by finishes_in rs)
 unfolding ticks_in_all
-steps_add_all [] v w ch same = record {
-  ticks = ap (λ (x : View). ticks_of x.history) same ∙ sym (append-nil (ticks_of v.history));
-  steps = ap (λ (x : View). x.steps) same ∙ omega arith;
-  finished = ap (λ (x : View). finished_all (object_of x)) same ∙ omega arith;
-}
+steps_add_all [] v w ch same = grind (arith, append-nil)
 steps_add_all (r ∷ rs) v w ch (next, first, rest) =
     let a = steps_add v next ch r first in
     let b = steps_add_all rs next w ch rest in
@@ -138,30 +124,16 @@ moves_tick_nothing (suc m) ch l = moves_tick_nothing m ch l
 
 last_ticks : (o : Option (Result Turn EngineFault)) (ch : ℕ) → ticks_in_all ch (last_results o) ≡ option_map_or (ticks_in ch) o []
 unfolding ticks_in_all
-last_ticks None ch = refl
-last_ticks (Some r) ch = append-nil (ticks_in ch r)
+last_ticks o ch = grind (arith, append-nil)
 
 results_ticks : (a : Advanced) (ch : ℕ) → ticks_in_all ch (results_of a) ≡ ticks_counted ch a
 unfolding ticks_in_all
-results_ticks a ch = by a.started where
-  by : (o : Option ℕ) → ticks_in_all ch ((results_before o a.moved) ++ last_results a.last) ≡ option_map_or (ticks_in ch) a.last []
-  by None = moves_tick_nothing a.moved ch _ ∙ last_ticks a.last ch
-  by (Some cookie) = moves_tick_nothing a.moved ch _ ∙ last_ticks a.last ch
+results_ticks a ch = grind (arith, moves_tick_nothing, last_ticks)
 
 -- Consecutive steps add the tick of the last one, their moves and their finish.
 pub advance_adds : (v w : View) (ch most : ℕ) (a : Advanced) → IsAdvance v ch most a w → Adds v w (ticks_counted ch a) (steps_counted a) (finishes_counted a)
-advance_adds v w ch most a h =
-    let all = steps_add_all (results_of a) v w ch (advance_steps v w ch most a h) in
-    record {
-      ticks = all.ticks ∙ ap (λ l. ticks_of v.history ++ l) (results_ticks a ch);
-      steps = omega (arith, all.steps, results_steps a);
-      finished = omega (arith, all.finished, results_finishes a);
-    }
+advance_adds v w ch most a h = grind (arith, steps_add_all, advance_steps, results_ticks, results_steps, results_finishes)
 
 -- at most `most` steps, and at least one if that is above 0
 pub advance_count : (v w : View) (ch most : ℕ) (a : Advanced) → IsAdvance v ch most a w → (steps_taken a ≤ most) × (0 < most → 0 < steps_taken a)
-advance_count v w ch most a h = by a.last h.last where
-  by : (o : Option (Result Turn EngineFault)) → EndsWith (after_steps v ch (steps_before a)) ch (steps_before a) most o w
-      → (steps_before a + (if is_some o then 1 else 0) ≤ most) × (0 < most → 0 < steps_before a + (if is_some o then 1 else 0))
-  by None e = (omega (arith, e.0), λ some. omega (arith, e.0, some))
-  by (Some r) e = (omega (arith, e.0), λ some. omega arith)
+advance_count v w ch most a h = grind arith

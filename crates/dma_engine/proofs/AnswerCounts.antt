@@ -1,14 +1,13 @@
 -- What each answer adds to the ticks, to the step count and to the number of finished cookies.
-use Rattle.std.proofs.Common.{◌≡◌, ℕ, ◌+◌, ◌<◌, List, [], ◌∷◌, ◌++◌, length, map, Option, Some, None, true, false, refl, ap, sym, ◌∙◌, subst, arith, append-nil}
+use Rattle.std.proofs.Common.{◌≡◌, ℕ, ◌+◌, ◌<◌, List, [], ◌∷◌, ◌++◌, length, map, Option, true, false, refl, ap, sym, ◌∙◌, subst, arith, append-nil}
 use Rattle.std.proofs.Common.{inl, inr}
 use Rattle.std.specs.Prelude.{slice_set, Result, Ok, sum}
 use Rattle.std.proofs.lemmas.List.{map-set, set-get_or, length_push}
 use Rattle.std.proofs.{lemmas.List.Sums.sum_by-set, lemmas.List.Sums.sum-map, Math.ListN.get_or-map}
 use Rattle.dma_mem.specs.{Places.Descriptor, declared.call.Call.Call}
-use Rattle.dma_chan.specs.Traffic.{stored_after}
-use Rattle.dma_engine.specs.Object.{Object, ChannelState, after, channel, empty_channel, with_channel, with_flag, with_front_laid, with_outcome, finished}
-use Rattle.dma_engine.specs.Object.{finished_all, front_of, outcome_of}
-use Rattle.dma_engine.specs.Turn.{Stepped, turn, ends, steps_in, finishes_in, next_moved, finishes, with_entry}
+use Rattle.dma_engine.specs.Object.{Object, ChannelState, after, channel, empty_channel, with_channel, finished}
+use Rattle.dma_engine.specs.Object.{finished_all}
+use Rattle.dma_engine.specs.Turn.{Stepped, turn, steps_in, finishes_in, next_moved, finishes, with_entry}
 use Rattle.dma_engine.specs.Answer.{CallAnswers, answer, unless, write_fault, read_fault, channel_fault, mark_fault, raise_fault, with_pause}
 use Rattle.dma_engine.specs.Laws.{Adds, SameCounts, IsQuiet, QuietCallsKeepCounts, StepsAdd, EndsByTurn, ticks_in}
 use Rattle.dma_engine.specs.{declared.call.Reply.Reply, declared.call.Reply.TheVariants.Done, declared.entry.Entry.Entry}
@@ -56,33 +55,19 @@ IsQuietEntry (Terminated ch done count) = ⊥
 IsQuietEntry _ = Unit {0}
 
 quiet_ticks : (e : Entry) → IsQuietEntry e → ticks_of (e ∷ []) ≡ []
-quiet_ticks (SubmittedEntry ch t cookie) q = absurd q
-quiet_ticks (FinishedEntry ch result done) q = absurd q
-quiet_ticks (Terminated ch done count) q = absurd q
-quiet_ticks e q = refl
+quiet_ticks e h = grind (arith)
 
 quiet_after : (o : Object) (e : Entry) → IsQuietEntry e → finished_all (after o e) ≡ finished_all o
-quiet_after o (SubmittedEntry ch t cookie) q = absurd q
-quiet_after o (Issued ch) q = finished_same o ch _ refl
-quiet_after o (Passed ch event) q = finished_same (with_flag o event false) ch _ refl
-quiet_after o (Signalled (Channel ch) event) q = finished_same (with_flag o event true) ch _ refl
-quiet_after o (FinishedEntry ch result done) q = absurd q
-quiet_after o (Terminated ch done count) q = absurd q
-quiet_after o e q = refl
+quiet_after o e h = grind (arith, finished_same)
 
 pub object_one : (v : View) (e : Entry) → object_of (with_entry v e) ≡ after (object_of v) e
 object_one v e = object_after_append v.base v.history (e ∷ [])
 
 entry_still : (v : View) (e : Entry) → IsQuietEntry e → SameCounts v (with_entry v e)
-entry_still v e q = record {
-  ticks = ticks_append v.history (e ∷ []) ∙ ap (λ l. ticks_of v.history ++ l) (quiet_ticks e q) ∙ append-nil (ticks_of v.history);
-  steps = refl;
-  finished = ap finished_all (object_one v e) ∙ quiet_after (object_of v) e q;
-}
+entry_still v e q = grind (arith, ticks_append, quiet_ticks, append-nil, object_one, quiet_after)
 
 unless_still : (v : View) (f : Option EngineFault) (x : Reply × View) → SameCounts v x.1 → SameCounts v (unless f v x).1
-unless_still v None x h = h
-unless_still v (Some fault) x h = same v
+unless_still v f x h = grind (arith)
 
 -- ---- a fact of an answer, from the answer with enough memory
 
@@ -90,10 +75,7 @@ by_answer_law : (v w : View) (call : Call) (reply : Reply) (P : View → Type 0)
 by_answer_law v w call reply P h is = subst P (sym (ap (λ (x : Reply × View). x.1) is)) h
 
 pub answered : (v w : View) (call : Call) (reply : Reply) (P : View → Type 0) → P v → P (answer v call).1 → CallAnswers v call reply w → P w
-answered v w call reply P o h a = elim (answer_is v w call reply a) [
-  | inl none ↦ subst P (sym none.1) o
-  | inr is ↦ by_answer_law v w call reply P h is
-]
+answered v w call reply P o h a = grind (arith, answer_is, by_answer_law)
 
 -- ---- the calls that give no cookie and finish none
 
@@ -129,15 +111,7 @@ entry_moves : (v : View) (ch n : ℕ) (e : Entry) → IsQuietEntry e → Deed v 
 entry_moves v ch n e q = let s = entry_still v e q in (s.ticks, refl, s.finished)
 
 finish_deed : (v : View) (ch n : ℕ) (t : Descriptor) (how : TransResult) → ch < channels v → Deed v ch (finishes v ch t n how)
-finish_deed v ch n t how less =
-    let done = stored_after t n in
-    let e = FinishedEntry ch how done in
-    let o = object_of v in
-    let c = channel o ch in
-    let set = finished_with (with_front_laid o ch done) ch (with_outcome c how done) less in
-    let more = length_push c.outcomes (outcome_of how (front_of c) done) in
-    let all : finished_all (after o e) ≡ finished_all o + 1 = omega (arith, set, more) in
-    (ticks_append v.history (e ∷ []), refl, ap finished_all (object_one v e) ∙ all, length_push v.history e)
+finish_deed v ch n t how less = grind (arith, finished_with, length_push, ticks_append, object_one)
 
 turn_deed : (v : View) (ch : ℕ) → Deed v ch (turn v ch)
 turn_deed v ch = turn_cases v ch (Deed v ch) (record {
@@ -152,20 +126,10 @@ turn_deed v ch = turn_cases v ch (Deed v ch) (record {
 -- ---- what a step adds
 
 still_adds : (v w : View) → SameCounts v w → Adds v w [] 0 0
-still_adds v w s = record {
-  ticks = s.ticks ∙ sym (append-nil (ticks_of v.history));
-  steps = omega (arith, s.steps);
-  finished = omega (arith, s.finished);
-}
+still_adds v w s = grind (arith, append-nil)
 
 deed_adds : (v w : View) (ch : ℕ) (r : Result Turn EngineFault) → Deed v ch (r, w) → Adds v w (ticks_in ch r) (steps_in r) (finishes_in r)
-deed_adds v w ch (Ok (FinishedTurn a b c)) d = record { ticks = d.0; steps = d.1; finished = d.2 }
-deed_adds v w ch (Ok Moved) d = record {
-  ticks = d.0 ∙ sym (append-nil (ticks_of v.history));
-  steps = d.1;
-  finished = omega (arith, d.2);
-}
-deed_adds v w ch r d = still_adds v w d
+deed_adds v w ch r h = grind (arith, append-nil, still_adds)
 
 pub steps_add : StepsAdd
 steps_add v w ch r h = elim (step_is_law v w ch r h) [
@@ -175,7 +139,4 @@ steps_add v w ch r h = elim (step_is_law v w ch r h) [
 ]
 
 pub ends_as_reported : EndsByTurn
-ends_as_reported v w ch r h = elim (step_is_law v w ch r h) [
-  | inl none ↦ inl none.0
-  | inr is ↦ inr (ap (λ (s : Stepped). ends s.0) (sym is))
-]
+ends_as_reported v w ch r h = grind (arith, step_is_law)

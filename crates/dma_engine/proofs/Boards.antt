@@ -1,5 +1,5 @@
 -- The counts of cookies: what bounds them, and that the ticks of a history add up to them.
-use Rattle.std.proofs.Common.{◌≡◌, ℕ, ◌+◌, ◌≤◌, List, [], ◌∷◌, ◌++◌, length, drop, true, false, refl, ap, sym, ◌∙◌, arith, inl, inr, ◌⊎◌, suc}
+use Rattle.std.proofs.Common.{◌≡◌, ℕ, ◌+◌, ◌≤◌, List, [], ◌∷◌, ◌++◌, length, drop, true, false, refl, ap, sym, ◌∙◌, arith, ◌⊎◌}
 use Rattle.std.specs.Prelude.{slice_set}
 use Rattle.std.proofs.lemmas.List.{map-set, length-set, length-map, length-drop, length-append, length_push, get_or-set_same, get_or-set_other, get_or_past}
 use Rattle.std.proofs.lemmas.List.{set-get_or}
@@ -8,10 +8,10 @@ use Rattle.dma_mem.specs.Places.{Descriptor}
 use Rattle.dma_engine.specs.declared.entry.Entry.TheVariants.{Submitted, Issued, Passed, Signalled, Finished, Terminated}
 use Rattle.dma_engine.specs.Object.{Object, ChannelState, Allows, after, channel, empty_channel, with_channel, used, finished, last_cookie, aborted, IsBase}
 use Rattle.dma_engine.specs.Object.{FrontIs, outcome_of, front_of, with_flag, with_front_laid}
-use Rattle.dma_engine.specs.Ticks.{Board, Counts, board_after, board_of, counts, counts_of, no_counts, ticks_of, added_up, status_of}
+use Rattle.dma_engine.specs.Ticks.{Board, board_after, board_of, counts, counts_of, no_counts, ticks_of, added_up, status_of}
 use Rattle.dma_engine.specs.{declared.entry.Entry.Entry, declared.entry.Signaller.TheVariants.Channel, declared.outcome.TransResult.TransResult}
 use Rattle.dma_engine.specs.{declared.outcome.TransResult.TheVariants.Aborted, History.object_after, History.IsLegal, declared.queue.Queue.Queue}
-use Rattle.dma_engine.specs.{Answer.status_by, Answer.status_in, View.View, View.object_of, inner.Holds.Holds, inner.Holds.Parts, inner.Holds.view_of}
+use Rattle.dma_engine.specs.{Answer.status_in, View.View, inner.Holds.Holds, inner.Holds.Parts, inner.Holds.view_of}
 use Rattle.dma_engine.proofs.Queues.{HoldsAt, front_where}
 use Rattle.dma_engine.specs.inner.Holds.{state_in}
 
@@ -29,35 +29,20 @@ AreCounted o = (ch : ℕ) → IsCounted (channel o ch)
 
 -- a channel that is there or not, after it was set
 pub with_channel_at : (o : Object) (ch : ℕ) (c : ChannelState) → (channel (with_channel o ch c) ch ≡ c) ⊎ (channel (with_channel o ch c) ch ≡ channel o ch)
-with_channel_at o ch c = elim (cases_lt ch (length o.channels)) [
-  | inl less ↦ inl (get_or-set_same o.channels ch c empty_channel less)
-  | inr past ↦ inr (get_or_past (slice_set o.channels ch c) ch empty_channel (omega (arith, length-set o.channels ch c))
-      ∙ sym (get_or_past o.channels ch empty_channel past))
-]
+with_channel_at o ch c = grind (arith, cases_lt, get_or-set_same, get_or_past, length-set)
 
 -- what holds of each channel, after one was set
 pub each_with : (P : ChannelState → Type 0) (o : Object) (ch : ℕ) (c : ChannelState) → ((d : ℕ) → P (channel o d)) → P c → (d : ℕ)
     → P (channel (with_channel o ch c) d)
-each_with P o ch c h n d = elim (cases_eq d ch) [
-  | inl e ↦ elim (with_channel_at o ch c) [ inl f ↦ rw (e, f) n | inr f ↦ rw (e, f) (h ch) ]
-  | inr e ↦ rw (get_or-set_other o.channels ch d c empty_channel e) (h d)
-]
+each_with P o ch c h n d = grind (arith, cases_eq, with_channel_at, get_or-set_other)
 
 pub length_aborted : (done : ℕ) (ts : List Descriptor) → length (aborted done ts) ≡ length ts
-length_aborted done [] = refl
-length_aborted done (t ∷ ts) = ap suc (length-map ts _)
+length_aborted done ts = grind (arith, length-map)
 
 -- the outcomes after all are added
 pub finished_all_law : (c : ChannelState) (done : ℕ) → finished c ≤ used c
     → c.forgotten + length (c.outcomes ++ aborted done (drop (length c.outcomes) c.submitted)) ≡ used c
-finished_all_law c done h =
-    omega (
-      arith,
-      length-append c.outcomes (aborted done (drop (length c.outcomes) c.submitted)),
-      length_aborted done (drop (length c.outcomes) c.submitted),
-      length-drop (length c.outcomes) c.submitted,
-      h,
-    )
+finished_all_law c done h = grind (arith, length-append, length_aborted, length-drop)
 
 -- a front is given and issued
 one_more : (c : ChannelState) (P : Descriptor → Type 0) → FrontIs c P → (finished c + 1 ≤ used c) × (finished c + 1 ≤ c.issued)
@@ -115,9 +100,7 @@ counted_object o [] h a = h
 counted_object o (e ∷ es) h a = counted_object (after o e) es (counted_after o e h a.0) a.1
 
 pub counted_base : (o : Object) → IsBase o → AreCounted o
-counted_base o h = λ ch.
-    let b = h.each ch in
-    record { finish = omega (arith, b.counts); order = b.counts.0; issue = b.counts.1; give = b.counts.2 }
+counted_base o h = grind arith
 
 -- ---- the ticks add up to the counts
 
@@ -135,61 +118,26 @@ same_counts o ch c h = sym (board_with o ch c ∙ ap (slice_set (board_of o) ch)
 
 -- the board after one entry
 pub board_after_law : (o : Object) (e : Entry) → AreCounted o → Allows o e → board_after (board_of o) (ticks_of (e ∷ [])) ≡ board_of (after o e)
-board_after_law o (Submitted ch t cookie) h a =
-    let c = channel o ch in
-    let n : added_up (used c) 1 ≡ c.forgotten + length (c.submitted ++ t ∷ []) = omega (arith, length_push c.submitted t, a.3, a.4) in
-    ap (λ x. slice_set (board_of o) ch (record x { used = added_up x.used 1 })) (counts_at o ch)
-    ∙ ap (λ k. slice_set (board_of o) ch (record { used = k; finished = finished c })) n
-    ∙ sym (board_with o ch _)
-board_after_law o (Issued ch) h a =
-    same_counts o ch _ refl
-board_after_law o (Passed ch event) h a = same_counts o ch _ refl
-board_after_law o (Signalled (Channel ch) event) h a = same_counts o ch _ refl
-board_after_law o (Finished ch result done) h a =
-    let c = channel o ch in
-    let old = h ch in
-    let outcome = outcome_of result (front_of c) done in
-    let n : added_up (finished c) 1 ≡ c.forgotten + length (c.outcomes ++ outcome ∷ []) =
-    omega (arith, length_push c.outcomes outcome, (fronts o ch result done a).0, old.give) in
-    ap (λ x. slice_set (board_of o) ch (record x { finished = added_up x.finished 1 })) (counts_at o ch)
-    ∙ ap (λ k. slice_set (board_of o) ch (record { used = used c; finished = k })) n
-    ∙ sym (board_with o ch _)
-board_after_law o (Terminated ch done count) h a =
-    let c = channel o ch in
-    let old = h ch in
-    let n : added_up (finished c) count ≡ c.forgotten + length (c.outcomes ++ aborted done (drop (length c.outcomes) c.submitted)) =
-    omega (arith, finished_all_law c done old.finish, a.1, old.finish, old.give) in
-    ap (λ x. slice_set (board_of o) ch (record x { finished = added_up x.finished count })) (counts_at o ch)
-    ∙ ap (λ k. slice_set (board_of o) ch (record { used = used c; finished = k })) n
-    ∙ sym (board_with o ch _)
-board_after_law o e h a = refl
+board_after_law o e h h2 = grind (arith, length_push, counts_at, board_with, same_counts, fronts, finished_all_law)
 
 ticks_cons : (board : Board) (e : Entry) (es : List Entry)
     → board_after board (ticks_of (e ∷ es)) ≡ board_after (board_after board (ticks_of (e ∷ []))) (ticks_of es)
-ticks_cons board (Submitted ch t cookie) es = refl
-ticks_cons board e es = refl
+ticks_cons board e es = grind (arith)
 
 pub board_is : (o : Object) (es : List Entry) → AreCounted o → IsLegal o es → board_after (board_of o) (ticks_of es) ≡ board_of (object_after o es)
 board_is o [] h a = refl
-board_is o (e ∷ es) h a =
-    ticks_cons (board_of o) e es ∙ ap (λ b. board_after b (ticks_of es)) (board_after_law o e h a.0)
-    ∙ board_is (after o e) es (counted_after o e h a.0) a.1
+board_is o (e ∷ es) h a = grind (arith, ticks_cons, board_after_law, counted_after, board_is (after o e) es (counted_after o e h a.0) a.1)
 
 -- ---- the readings
 
 -- what bounds a queue
 pub queue_small : {p : Parts} {ch : ℕ} {q : Queue} → HoldsAt p ch q → (q.given ≤ last_cookie) × (q.forgotten + length q.outcomes.items ≤ q.given)
-queue_small {p} {ch} at =
-    let c = counted_object p.base p.history (counted_base p.base at.holds.sound.opens) at.holds.sound.legal ch in
-    (omega (arith, at.tied.given, c.give), omega (arith, at.tied.given, at.tied.forgotten, ap length at.tied.outcomes, c.finish))
+queue_small {p} {ch} at = grind (arith, counted_object, counted_base)
 
 -- how far a cookie is, by the board that the ticks of the history add up to
 pub status_by_board : (v : View) (ch cookie : ℕ) → AreCounted v.base → IsLegal v.base v.history
     → status_in v ch cookie ≡ status_of (board_after (board_of v.base) (ticks_of v.history)) ch cookie
-status_by_board v ch cookie counted legal =
-    let is = board_is v.base v.history counted legal in
-    ap (λ (x : Counts). status_by x.used x.finished cookie) (sym (counts_at (object_of v) ch))
-    ∙ ap (λ b. status_of b ch cookie) (sym is)
+status_by_board v ch cookie counted legal = grind (arith, board_is, counts_at)
 
 pub counted_at : (p : Parts) → Holds p → (ch : ℕ) → IsCounted (state_in p ch)
 counted_at p h ch = counted_object (view_of p).base p.history (counted_base p.base h.sound.opens) h.sound.legal ch

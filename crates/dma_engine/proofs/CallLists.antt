@@ -1,4 +1,5 @@
 -- Calls one after another.
+use Rattle.std.proofs.Common.{arith}
 use Rattle.std.proofs.Common.{inl, inr, ◌≡◌, ℕ, ◌+◌, ◌-◌, List, [], ◌∷◌, ◌++◌, length, take, drop, Option, Some, None, true, false, refl, ap, sym, ◌∙◌, subst}
 use Rattle.std.proofs.Common.{append-nil, append_assoc}
 use Rattle.std.proofs.lemmas.Bool.{or_parts, true≢false}
@@ -29,10 +30,7 @@ pub extends_same : (v w : View) → w ≡ v → Extends v w
 extends_same v w is = (ap (λ (u : View). u.base) is, ([], ap (λ (u : View). u.history) is ∙ sym (append-nil v.history)))
 
 pub extends_trans : (u v w : View) → Extends u v → Extends v w → Extends u w
-extends_trans u v w a b =
-    let more = a.1 in
-    let rest = b.1 in
-    (b.0 ∙ a.0, (more.0 ++ rest.0, rest.1 ∙ ap (λ h. h ++ rest.0) more.1 ∙ append_assoc u.history more.0 rest.0))
+extends_trans u v w a b = grind (arith, append_assoc)
 
 unless_extends : (v : View) (f : Option EngineFault) (x : Reply × View) → Extends v x.1 → Extends v (unless f v x).1
 unless_extends v None x h = h
@@ -112,5 +110,4 @@ chain_extends v w (c ∷ cs) (r ∷ rs) n h =
 -- ---- calls that are no checkpoint
 
 pub quiet_extends : (call : Call) (reply : Reply) → IsQuiet call → is_checkpoint call reply ≡ false
-quiet_extends Checkpoint reply q = absurd q
-quiet_extends call reply q = refl
+quiet_extends call reply h = grind (arith)

@@ -1,29 +1,25 @@
 -- What an engine keeps when an entry is added, or one channel changes.
-use Rattle.std.proofs.Common.{◌≡◌, ◌≢◌, ℕ, ◌<◌, ◌/◌, false, List, [], ◌∷◌, ◌++◌, length, Option, Some, None, Bool, true, refl, ap, sym, ◌∙◌, subst, arith, inl}
+use Rattle.std.proofs.Common.{◌≡◌, ◌≢◌, ℕ, ◌<◌, false, List, [], ◌∷◌, ◌++◌, length, Option, Some, None, Bool, true, refl, ap, sym, ◌∙◌, subst, arith, inl}
 use Rattle.std.proofs.Common.{inr}
-use Rattle.std.specs.Prelude.{slice_get, slice_index, slice_index_or, slice_set, is_some, IfSome, IsSomeAnd}
-use Rattle.std.specs.{List.Contains, Option.option_map}
+use Rattle.std.specs.Prelude.{slice_get, slice_index, slice_index_or, slice_set, is_some, IsSomeAnd}
+use Rattle.std.specs.{List.Contains}
 use Rattle.std.proofs.lemmas.Bool.{cases_eq}
 use Rattle.std.proofs.lemmas.List.{map-set, set-get_or, length-set, get_or-set_same, get_or-set_other}
-use Rattle.dma_mem.specs.{Places.Descriptor, Places.is_free_of, Places.sources, Places.destinations, Meeting.IsFree, Marking.MarkList}
+use Rattle.dma_mem.specs.{Places.Descriptor, Places.is_free_of, Places.sources, Meeting.IsFree, Marking.MarkList}
 use Rattle.dma_mem.proofs.{SharedPlaces.share_none, SharedPlaces.is_free_of_true, OverTransfers.IsFree_sym}
-use Rattle.dma_chan.specs.{Channel.ChannelValue, inner.At.IsAt, Programs.ProgramValue}
+use Rattle.dma_chan.specs.{Channel.ChannelValue, inner.At.IsAt}
 use Rattle.dma_chan.proofs.LayerLaws.{survives}
-use Rattle.dma_engine.specs.Object.{Object, ChannelState, channel, empty_channel, after, front}
+use Rattle.dma_engine.specs.Object.{Object, ChannelState, channel, after, front}
 use Rattle.dma_engine.specs.View.{View, ChannelSchedule, RunningTransfer, Fits, Agrees, AreFree, IsSound, running_in, runs, idle, object_of, memory_of}
 use Rattle.dma_engine.specs.View.{memory_shown}
-use Rattle.dma_engine.specs.inner.Holds.{HasSubmitted, Holds, IsPrepared, IsQueue, IsRun, Parts, view_of, schedule_of, taken_of, object_in, state_in, runs_in}
+use Rattle.dma_engine.specs.inner.Holds.{HasSubmitted, Holds, IsPrepared, IsQueue, IsRun, Parts, view_of, schedule_of, taken_of, object_in, state_in}
 use Rattle.dma_engine.specs.{declared.entry.Entry.Entry, declared.queue.Queue.Queue, History.object_after, Turn.with_entry, inner.Ranges.AreOfRunning}
 use Rattle.dma_engine.proofs.{Histories.object_after_append, Queues.HoldsAt, Queues.slice_get_push}
 
 -- ---- transfers that are free of each other
 
 pub free_true : (t u : Descriptor) → IsFree t u → is_free_of t u ≡ true
-free_true t u h =
-    let a = share_none (destinations t) (destinations u) h.writes_none in
-    let b = share_none (destinations t) (sources u) h.writes_no_source in
-    let c = share_none (sources t) (destinations u) h.reads_none in
-    rw (a, b, c) refl
+free_true t u h = grind (arith, share_none)
 
 pub AreFree_sym : (x y : Option RunningTransfer) → AreFree x y → AreFree y x
 AreFree_sym None None h = tt
@@ -37,12 +33,7 @@ AreFree_sym (Some r) (Some s) h = free_true s.transfer r.transfer (IsFree_sym r.
 pub run_moved : (memory other : List ℕ) (m : ChannelValue) (c d : ChannelState)
     → ((t : Descriptor) → is_some m.program ≡ true → front c ≡ Some t → IsAt t m.taken memory m → IsSomeAnd (front d) (λ u. IsAt u m.taken other m))
     → IsRun memory m c → IsRun other m d
-run_moved memory other m c d moved h = by m.program (front c) refl refl h where
-  by : (o : Option ProgramValue) (f : Option Descriptor) → m.program ≡ o → front c ≡ f → IfSome o (λ _. IsSomeAnd f (λ t. IsAt t m.taken memory m))
-      → IfSome o (λ _. IsSomeAnd (front d) (λ u. IsAt u m.taken other m))
-  by None f loaded is g = tt
-  by (Some p) None loaded is g = absurd g
-  by (Some p) (Some t) loaded is g = moved t (ap is_some loaded) is g
+run_moved memory other m c d moved h = grind arith
 
 -- It runs on over another memory if this one has the same bytes at the sources of the front.
 pub run_kept : (memory other : List ℕ) (m : ChannelValue) (c : ChannelState)
@@ -52,10 +43,7 @@ run_kept memory other m c same = run_moved memory other m c c (λ t loaded is at
 
 -- A machine without a program runs nothing.
 pub run_none : (memory : List ℕ) (m : ChannelValue) (c : ChannelState) → taken_of m ≡ None → IsRun memory m c
-run_none memory m c none = by m.program none where
-  by : (o : Option ProgramValue) → option_map (λ _. m.taken) o ≡ None → IfSome o (λ _. IsSomeAnd (front c) (λ t. IsAt t m.taken memory m))
-  by None e = tt
-  by (Some p) e = absurd cc
+run_none memory m c none = grind arith
 
 -- A queue still matches its channel when entries are added to the history: for its cookies, and for all of it.
 pub submitted_kept : {ch : ℕ} {kept : List Descriptor} {history : List Entry} {lost number : ℕ} {indices : List ℕ} {before : ℕ} {submitted : List Descriptor}
@@ -74,11 +62,7 @@ queue_kept longer other grows machine h =
 
 -- Whether a schedule fits an object depends on the channels of the object alone.
 pub fits_channels : (o p : Object) (s : List ChannelSchedule) → o.channels ≡ p.channels → Fits o s → Fits p s
-fits_channels o p s e h = record {
-  many = rw (← e) h.many;
-  each = rw (← e) h.each;
-  free = rw (← e) h.free;
-}
+fits_channels o p s e h = grind arith
 
 -- the parts with one more entry
 abbrev pub with_entry_at : Parts → Entry → List ℕ → List Bool → MarkList → Parts
@@ -102,8 +86,7 @@ holds_entered p e memory events marks h w =
     let o = object_of v in
     let step : object_of u ≡ after o e = object_after_append v.base p.history (e ∷ []) in
     let channels = ap (λ (x : Object). x.channels) step ∙ w.stay in
-    let same : (ch : ℕ) → runs (object_of u) u.schedule ch ≡ runs o v.schedule ch =
-    λ ch. ap (λ l. running_in ch (slice_index_or l ch empty_channel) (slice_index_or v.schedule ch idle).taken) channels in
+    let same : (ch : ℕ) → runs (object_of u) u.schedule ch ≡ runs o v.schedule ch = grind (arith) in
     record {
       sound = w.sound;
       shown = rw step w.shown;
@@ -123,22 +106,12 @@ holds_entered p e memory events marks h w =
 -- The destinations of what runs lie on made pages, also after more pages are made.
 pub prepared_more : (made more : List Bool) (x : Option RunningTransfer)
     → ((page : ℕ) → slice_index_or made page false ≡ true → slice_index_or more page false ≡ true) → IsPrepared made x → IsPrepared more x
-prepared_more made more None keeps h = tt
-prepared_more made more (Some r) keeps h = λ a i. keeps (a / 4096) (h a i)
+prepared_more made more x h h2 = grind (arith)
 
 -- Making pages changes nothing else.
 pub holds_pages : (p : Parts) (more : List Bool) → Holds p → ((page : ℕ) → slice_index_or p.made page false ≡ true → slice_index_or more page false ≡ true)
     → Holds (record p { made = more })
-holds_pages p more h keeps = record {
-  sound = h.sound;
-  size = h.size;
-  shown = h.shown;
-  events = h.events;
-  marks = h.marks;
-  each = h.each;
-  prepared = λ ch. prepared_more p.made more (runs_in p ch) keeps (h.prepared ch);
-  ranges = h.ranges;
-}
+holds_pages p more h keeps = grind (arith, prepared_more)
 
 -- ---- one channel changes
 
@@ -148,9 +121,7 @@ runs_here_law o s ch x less = ap (λ (y : ChannelSchedule). running_in ch (chann
 
 pub runs_other : (o p : Object) (s : List ChannelSchedule) (ch c : ℕ) (x : ChannelSchedule) → c ≢ ch → channel p c ≡ channel o c
     → runs p (slice_set s ch x) c ≡ runs o s c
-runs_other o p s ch c x differs same =
-    ap (λ (y : ChannelSchedule). running_in c (channel p c) y.taken) (get_or-set_other s ch c x idle differs)
-    ∙ ap (λ d. running_in c d (slice_index_or s c idle).taken) same
+runs_other o p s ch c x differs same = grind (arith, get_or-set_other)
 
 -- The channels of p are those of o but for this one, whose state is `state`.
 pub record Sets (o p : Object) (ch : ℕ) (state : ChannelState) : Type 0 where
@@ -159,11 +130,7 @@ pub record Sets (o p : Object) (ch : ℕ) (state : ChannelState) : Type 0 where
   pub others : (c : ℕ) → c ≢ ch → channel p c ≡ channel o c
 
 pub sets : (o p : Object) (ch : ℕ) (state : ChannelState) → ch < length o.channels → p.channels ≡ slice_set o.channels ch state → Sets o p ch state
-sets o p ch state there is = record {
-  many = ap length is ∙ length-set o.channels ch state;
-  here = ap (λ (l : List ChannelState). slice_index_or l ch empty_channel) is ∙ get_or-set_same o.channels ch state empty_channel there;
-  others = λ c f. ap (λ (l : List ChannelState). slice_index_or l c empty_channel) is ∙ get_or-set_other o.channels ch c state empty_channel f;
-}
+sets o p ch state there is = grind (arith, length-set, get_or-set_same, get_or-set_other)
 
 -- An object and a schedule still fit each other if a channel has this state and this schedule.
 pub record FitsStill (o : Object) (s : List ChannelSchedule) (ch : ℕ) (state : ChannelState) (x : ChannelSchedule) : Type 0 where
@@ -219,28 +186,35 @@ changed_view p ch q history steps =
 
 pub view_changed : (p : Parts) (ch : ℕ) (q : Queue) (memory : List ℕ) (events : List Bool) (history : List Entry) (steps : ℕ)
     → view_of (changed p ch q memory events history steps) ≡ changed_view p ch q history steps
-view_changed p ch q memory events history steps =
-    let s = map-set schedule_of p.queues ch q in
-    rw s refl
+view_changed p ch q memory events history steps = grind (arith, map-set)
 
--- The history begins with the present one and leads to the object o, in which only this channel may differ: its state
--- is then `state`.
+-- The history begins with that of the view and leads to the object o.
+pub record GoesTo (v : View) (history : List Entry) (o : Object) : Type 0 where
+  pub becomes : object_after v.base history ≡ o
+  pub grows : (k : ℕ) (e : Entry) → slice_get v.history k ≡ Some e → slice_get history k ≡ Some e
+
+-- So does the present one, and with one more entry one that leads to the object after it.
+pub goes_still : (v : View) → GoesTo v v.history (object_of v)
+goes_still v = record { becomes = refl; grows = λ k e is. is }
+
+pub goes_more : {v : View} {history : List Entry} {o w : Object} (e : Entry) → GoesTo v history o → after o e ≡ w → GoesTo v (history ++ e ∷ []) w
+goes_more {v} {history} e h is = grind (arith, object_after_append, slice_get_push)
+
+-- Only this channel may differ in the object o, and its state is then `state`.
 pub record LeadsTo (p : Parts) (ch : ℕ) (history : List Entry) (o : Object) (state : ChannelState) : Type 0 where
-  pub becomes : object_after (view_of p).base history ≡ o
-  pub grows : (k : ℕ) (e : Entry) → slice_get p.history k ≡ Some e → slice_get history k ≡ Some e
+  pub goes : GoesTo (view_of p) history o
+  pub open goes use *
   pub marks : (object_in p).marks ≡ o.marks
   pub sets : Sets (object_in p) o ch state
   pub open sets use *
 
--- The present history leads to the present object, and with one more entry to the object after it.
 pub leads_still : (p : Parts) (ch : ℕ) → LeadsTo p ch p.history (object_in p) (state_in p ch)
-leads_still p ch = record { becomes = refl; grows = λ k e is. is; marks = refl; sets = record { many = refl; here = refl; others = λ c f. refl } }
+leads_still p ch = record { goes = goes_still (view_of p); marks = refl; sets = record { many = refl; here = refl; others = λ c f. refl } }
 
 pub leads_on : (p : Parts) (ch : ℕ) (e : Entry) (state : ChannelState) → let o = object_in p in ch < length o.channels →
     o.marks ≡ (after o e).marks → (after o e).channels ≡ slice_set o.channels ch state → LeadsTo p ch (p.history ++ e ∷ []) (after o e) state
 leads_on p ch e state there marks is = record {
-  becomes = object_after_append p.base p.history (e ∷ []);
-  grows = λ k x. slice_get_push p.history e x k;
+  goes = goes_more e (goes_still (view_of p)) refl;
   marks = marks;
   sets = sets (object_in p) (after (object_in p) e) ch state there is;
 }

@@ -1,4 +1,13 @@
 -- What an engine keeps at a checkpoint.
+use Rattle.std.proofs.Common.{false, true≢false, ◌+◌}
+use Rattle.std.proofs.lemmas.List.{get_or-drop}
+use Rattle.std.proofs.lemmas.Option.{slice_get-get_or}
+use Rattle.dma_engine.specs.Object.{IsBase}
+use Rattle.dma_engine.specs.View.{Agrees}
+use Rattle.dma_engine.proofs.TransferRules.{IsGood, marked_object, ruled_base, ruled_object}
+use Rattle.dma_engine.proofs.Queues.{front_where, runs_front}
+use Rattle.dma_engine.proofs.Sizes.{flags_object, many_channels}
+use Rattle.dma_engine.proofs.WhatRuns.{find_none_at}
 use Rattle.std.proofs.Common.{◌≡◌, ℕ, ◌<◌, ◌≤◌, List, [], ◌∷◌, ◌++◌, zero, suc, length, map, take, drop, Option, Some, None, true, refl, ap, sym, ◌∙◌, subst}
 use Rattle.std.proofs.Common.{arith, inl, inr}
 use Rattle.std.specs.{Prelude.slice_index_or, Prelude.slice_set, Prelude.find, List.sum_by}
@@ -6,40 +15,96 @@ use Rattle.std.proofs.lemmas.List.{get_or-map, get_or_past, length-map, length-d
 use Rattle.std.proofs.{lemmas.Bool.cases_lt, lemmas.List.Sums.sum_by-cons}
 use Rattle.dma_mem.specs.Image.{over, after_moves}
 use Rattle.dma_mem.proofs.PageImages.{put_none}
-use Rattle.dma_engine.specs.Object.{used, finished_all, Object, ChannelState, base_from, forget, channel, empty_channel, finished}
-use Rattle.dma_engine.specs.Answer.{checkpoint_fault, checkpointed, unless}
+use Rattle.dma_engine.specs.Object.{used, Object, ChannelState, base_from, forget, channel, empty_channel, finished}
+use Rattle.dma_engine.specs.Answer.{checkpointed, unless}
 use Rattle.dma_engine.specs.View.{View, ChannelSchedule, RunningTransfer, Fits, runs, running_in, running, idle, object_of, memory_of, IsSound, with_stored}
 use Rattle.dma_engine.specs.inner.Holds.{Holds, IsPrepared, IsQueue, Parts, view_of, schedule_of, taken_of, queue_forgotten, object_in, state_in}
-use Rattle.dma_engine.specs.{declared.queue.Queue.Queue, declared.call.Reply.Reply, declared.call.Reply.TheVariants.Done}
-use Rattle.dma_engine.specs.{declared.call.Reply.TheVariants.Refused, declared.fault.EngineFault.EngineFault, Laws.CheckpointsKeep, Room.no_room}
+use Rattle.dma_engine.specs.{declared.queue.Queue.Queue, declared.call.Reply.TheVariants.Done}
+use Rattle.dma_engine.specs.{declared.fault.EngineFault.EngineFault, Laws.CheckpointsKeep, Room.no_room}
 use Rattle.dma_engine.specs.{inner.Inside.queue_room, inner.Ranges.AreOfRunning, Ticks.board_of, Ticks.counts_of}
 use Rattle.dma_engine.proofs.Boards.{counted_at, counted_base, counted_object}
-use Rattle.dma_engine.proofs.StaysSound.{NothingRuns, checkpoint_sound, forgotten_at, none_taken}
-use Rattle.dma_engine.proofs.{Changes.run_none, QueueCalls.shown_both, Queues.HoldsAt, Queues.holds_at, Sizes.size_object, WhatRuns.running_same}
+use Rattle.dma_engine.proofs.{Changes.run_none, Memory.shown_both, Queues.HoldsAt, Queues.holds_at, Sizes.size_object, WhatRuns.running_same}
 
--- ---- the channels of the next base
+-- ---- a sound view stays sound
+
+pub forgotten_at : (o : Object) (ch : ℕ) → channel (base_from o) ch ≡ forget (channel o ch)
+forgotten_at o ch = grind (arith, cases_lt, get_or-map, get_or_past, length-map)
+
+-- nothing runs
+abbrev pub NothingRuns : Object → List ChannelSchedule → Type 0
+NothingRuns o s = find (λ (r : RunningTransfer). true) (running o s) ≡ None
+
+-- so no schedule has one
+pub none_taken : (o : Object) (s : List ChannelSchedule) (ch : ℕ) → Fits o s → NothingRuns o s → ch < length o.channels
+    → (slice_index_or s ch idle).taken ≡ None
+none_taken o s ch h none less = by _ refl where
+  by : (x : Option ℕ) → (slice_index_or s ch idle).taken ≡ x → x ≡ None
+  by None e = refl
+  by (Some n) e =
+      let c = channel o ch in
+      let agrees : Agrees c (Some n) = rw e at (h.each ch less) in
+      let f = front_where c _ agrees.1 in
+      let is : runs o s ch ≡ Some (record { ch = ch; cookie = finished c + 1; transfer = f.transfer; taken = n }) = ap (running_in ch c) e
+      ∙ runs_front ch c f.transfer n f.is in
+      absurd (true≢false (find_none_at (λ (r : RunningTransfer). true) o s ch _ less none is))
+
+-- so no front has passed or signalled
+none_passed : (o : Object) (s : List ChannelSchedule) (ch : ℕ) → Fits o s → NothingRuns o s → ((channel o ch).passed ≡ false)
+    × ((channel o ch).signalled ≡ false)
+none_passed o s ch h none = elim (cases_lt ch (length o.channels)) [
+  | inl less ↦ let agrees : Agrees (channel o ch) None = rw (none_taken o s ch h none less) at (h.each ch less) in agrees
+  | inr past ↦ rw (get_or_past o.channels ch empty_channel past) (refl, refl)
+]
+
+-- the next base is one
+base_next : (v : View) → IsSound v → NothingRuns (object_of v) v.schedule → IsBase (base_from (object_of v))
+base_next v h none =
+    let o = object_of v in
+    let ruled = ruled_object (length v.base.image) v.base v.history refl (ruled_base v.base h.opens) h.legal in
+    let same : length v.base.image ≡ length o.image = sym (size_object v.base v.history) in
+    record {
+      flags = flags_object v.base v.history ∙ h.opens.flags;
+      marks = marked_object v.base v.history h.opens.marks h.legal;
+      each = λ ch.
+          let c = channel o ch in
+          let n = length c.outcomes in
+          let counted = counted_object v.base v.history (counted_base v.base h.opens) h.legal ch in
+          let rests = none_passed o v.schedule ch h.fits none in
+          rw (forgotten_at o ch) (record {
+            outcomes = refl;
+            rests = rests;
+            counts = (
+              omega (arith, counted.order),
+              omega (arith, counted.issue, counted.finish, length-drop n c.submitted),
+              omega (arith, counted.give, counted.finish, length-drop n c.submitted),
+            );
+            rules = λ k d less.
+                let within : n + k < length c.submitted = omega (arith, less, length-drop n c.submitted) in
+                let good : IsGood (length v.base.image) (slice_index_or c.submitted (n + k) d) =
+                ruled ch (n + k) _ (slice_get-get_or c.submitted (n + k) d within) in
+                let here : slice_index_or (drop n c.submitted) k d ≡ slice_index_or c.submitted (n + k) d = get_or-drop n c.submitted k d in
+                subst (IsGood (length o.image)) (sym here) (subst (λ m. IsGood m (slice_index_or c.submitted (n + k) d)) same good);
+          });
+    }
+
+fits_next : (o : Object) (s : List ChannelSchedule) → Fits o s → NothingRuns o s → Fits (base_from o) s
+fits_next o s h none = grind (arith, length-map, none_taken, forgotten_at)
+
+pub checkpoint_sound : (v : View) → IsSound v → NothingRuns (object_of v) v.schedule → IsSound (checkpointed v)
+checkpoint_sound v h none =
+    let many : length (base_from (object_of v)).channels ≡ length (object_of v).channels = length-map (object_of v).channels forget in
+    record {
+      opens = base_next v h none;
+      makes = rw (size_object v.base v.history, many, many_channels v.base v.history) h.makes;
+      legal = tt;
+      fits = fits_next (object_of v) v.schedule h.fits none;
+    }
 
 -- ---- the queues after it
 
 queue_next : {p : Parts} {ch : ℕ} {q : Queue} → HoldsAt p ch q → taken_of q.channel ≡ None → let c = state_in p ch in
     IsQueue ch (forget c).submitted [] p.memory (queue_forgotten q) (forget c)
-queue_next {p} {ch} {q} at none =
-    let c = state_in p ch in
-    let t = at.tied in
-    let counted = counted_at p at.holds ch in
-    record {
-      submitted = record {
-        forgotten = omega (arith, t.forgotten, ap length t.outcomes);
-        given = omega (arith, t.given, counted.finish, length-drop (length c.outcomes) c.submitted);
-        many = omega arith;
-        first = take_all _ (drop (length c.outcomes) c.submitted) (omega arith);
-        indexed = λ k l. absurd (omega (arith, l));
-      };
-      outcomes = refl;
-      issued = t.issued;
-      halted = t.halted;
-      machine = run_none p.memory q.channel (forget c) none;
-    }
+queue_next {p} {ch} {q} at none = grind (arith, counted_at, length-drop, take_all, run_none)
 
 -- ---- the parts after it
 
@@ -55,10 +120,7 @@ view_next p = ap (λ s. record { base = base_from (object_in p); history = []; s
 
 -- nothing is taken on any channel
 nothing_taken : (o : Object) (s : List ChannelSchedule) (ch : ℕ) → Fits o s → NothingRuns o s → (slice_index_or s ch idle).taken ≡ None
-nothing_taken o s ch h none = elim (cases_lt ch (length o.channels)) [
-  | inl less ↦ none_taken o s ch h none less
-  | inr past ↦ ap (λ (x : ChannelSchedule). x.taken) (get_or_past s ch idle (omega (arith, past, h.many)))
-]
+nothing_taken o s ch h none = grind (arith, cases_lt, none_taken, get_or_past)
 
 pub holds_next : (p : Parts) → Holds p → NothingRuns (object_in p) (view_of p).schedule → Holds (parts_forgotten p)
 holds_next p h none =
@@ -128,10 +190,7 @@ no_room_next (q ∷ qs) (suc ch) = no_room_next qs ch
 -- ---- a checkpoint keeps the board
 
 pub counts_next : (c : ChannelState) → finished c ≤ used c → counts_of (forget c) ≡ counts_of c
-counts_next c h =
-    let same : used (forget c) ≡ used c = omega (arith, h, length-drop (length c.outcomes) c.submitted) in
-    let done : finished (forget c) ≡ finished c = omega arith in
-    rw (same, done) refl
+counts_next c h = grind (arith, length-drop)
 
 counts_all_law : (cs : List ChannelState) → ((k : ℕ) → finished (slice_index_or cs k empty_channel) ≤ used (slice_index_or cs k empty_channel))
     → map counts_of (map forget cs) ≡ map counts_of cs
@@ -153,14 +212,7 @@ sum_forgotten (c ∷ cs) =
     omega (arith, sum_by-cons finished (forget c) (map forget cs), sum_by-cons finished c cs)
 
 pub accepted : (f : Option EngineFault) (v w x : View) → (Done, w) ≡ unless f v (Done, x) → w ≡ x
-accepted None v w x h = ap (λ (y : Reply × View). y.1) h
-accepted (Some f) v w x h = let e : Done ≡ Refused f = ap (λ (y : Reply × View). y.0) h in absurd cc
+accepted f v w x h = grind (arith)
 
 pub checkpoints_keep : CheckpointsKeep
-checkpoints_keep v w h done =
-    let is : w ≡ checkpointed v = accepted (checkpoint_fault v) v w (checkpointed v) done in (
-      ap (λ (x : View). x.history) is,
-      ap (λ (x : View). board_of x.base) is ∙ board_next v h,
-      ap (λ (x : View). x.steps) is,
-      ap (λ (x : View). finished_all (object_of x)) is ∙ sum_forgotten (object_of v).channels,
-    )
+checkpoints_keep v w h done = grind (arith, accepted, board_next, sum_forgotten)

@@ -1,11 +1,11 @@
 -- The fronts that are found by their entries, and the first running transfer that conflicts.
-use Rattle.std.proofs.Common.{◌≡◌, ℕ, ◌+◌, ◌-◌, ◌<◌, ◌≤◌, List, length, Option, Some, None, Bool, true, false, cond, refl, ap, sym, ◌∙◌, arith}
-use Rattle.std.specs.{Prelude.find, Prelude.slice_index_or, Prelude.unwrap_or, Prelude.nat_lt, Option.option_map, Option.option_to_list}
+use Rattle.std.proofs.Common.{◌≡◌, ℕ, ◌+◌, ◌-◌, ◌<◌, ◌≤◌, List, length, Option, Some, None, Bool, true, false, refl, ap, ◌∙◌, arith}
+use Rattle.std.specs.{Prelude.find, Prelude.slice_index_or, Prelude.nat_lt, Option.option_to_list}
 use Rattle.std.proofs.lemmas.Bool.{le-ltb, lt-ltb, ltb-false, ltb-true}
 use Rattle.std.proofs.lemmas.Option.{get_or_from_slice_get, slice_get-get_or}
 use Rattle.dma_mem.specs.Places.{Descriptor}
-use Rattle.dma_engine.specs.Object.{Object, ChannelState, channel, front, issued_front, finished, no_transfer, used}
-use Rattle.dma_engine.specs.View.{ChannelSchedule, RunningTransfer, runs, running_in, running, idle}
+use Rattle.dma_engine.specs.Object.{Object, ChannelState, channel, issued_front, finished, no_transfer, used}
+use Rattle.dma_engine.specs.View.{ChannelSchedule, RunningTransfer, runs, running_in, running}
 use Rattle.dma_engine.specs.{declared.queue.Queue.Queue, declared.access.Ranges.Ranges, inner.Ranges.AreOfRunning, inner.Ranges.HasRangesOf}
 use Rattle.dma_engine.specs.{inner.Accesses.named, inner.Found.front_in, inner.Found.transfer_at, inner.Holds.Parts, inner.Holds.state_in}
 use Rattle.dma_engine.proofs.Queues.{Front, HoldsAt, transfer_found}
@@ -56,39 +56,24 @@ front_found {p} {ch} {q} at = by (nat_lt (length q.outcomes.items) (q.issued - q
 
 -- no more are issued than are known
 pub few_issued : {p : Parts} {ch : ℕ} {q : Queue} → HoldsAt p ch q → q.issued ≤ q.forgotten + length (channel p.base ch).submitted + length q.indices.items
-few_issued {p} {ch} at =
-    let counted = counted_at p at.holds ch in
-    omega (arith, at.tied.issued, at.tied.forgotten, at.tied.many, counted.issue)
+few_issued {p} {ch} at = grind (arith, counted_at)
 
 -- ---- the first transfer that conflicts
 
 -- a running transfer is named by its channel and the cookie of the front
 runs_named : (ch : ℕ) (c : ChannelState) (taken : Option ℕ) (r : RunningTransfer) → running_in ch c taken ≡ Some r → (r.ch ≡ ch) × (r.cookie ≡ finished c + 1)
-runs_named ch c None r h = absurd cc
-runs_named ch c (Some n) r h = by (front c) h where
-  by : (o : Option Descriptor) → option_map (λ t. record { ch = ch; cookie = finished c + 1; transfer = t; taken = n }) o ≡ Some r → (r.ch ≡ ch)
-      × (r.cookie ≡ finished c + 1)
-  by None e = absurd cc
-  by (Some t) e = (sym (ap (λ (x : Option RunningTransfer). (unwrap_or x r).ch) e), sym (ap (λ (x : Option RunningTransfer). (unwrap_or x r).cookie) e))
+runs_named ch c taken r h = grind (arith)
 
 -- the first transfer that conflicts is the one with these ranges
 pub way_here : (q : Descriptor → Bool) (o : Object) (s : List ChannelSchedule) (ch cookie : ℕ) (r : Ranges) → ch < length o.channels
     → find (λ x. q x.transfer) (below o s ch) ≡ None → AreOfRunning (Some r) (runs o s ch) → cookie ≡ finished (channel o ch) + 1
     → ((t : Descriptor) → HasRangesOf r t → true ≡ q t) → Some (ch, cookie) ≡ named (find (λ x. q x.transfer) (running o s))
-way_here q o s ch cookie r less none kept number passes =
-    let k = kept_ranges r (runs o s ch) kept in
-    let x = k.it in
-    let names = runs_named ch (channel o ch) (slice_index_or s ch idle).taken x k.is in
-    let first : find (λ y. q y.transfer) (running o s) ≡ Some x = find_here (λ y. q y.transfer) o s ch x less none k.is (sym (passes x.transfer k.ranges)) in
-    let pair : Some (x.ch, x.cookie) ≡ Some (ch, cookie) = ap (λ n. Some (n, x.cookie)) names.0 ∙ ap (λ n. Some (ch, n)) (names.1 ∙ sym number) in
-    sym (ap named first ∙ pair)
+way_here q o s ch cookie r less none kept number passes = grind (arith, kept_ranges, runs_named, find_here)
 
 -- a transfer that doesn't conflict is passed over
 pub passed_over : (q : Descriptor → Bool) (x : Option RunningTransfer) (r : Ranges) → AreOfRunning (Some r) x
     → ((t : Descriptor) → HasRangesOf r t → false ≡ q t) → find (λ y. q y.transfer) (option_to_list x) ≡ None
-passed_over q x r kept fails =
-    let k = kept_ranges r x kept in
-    ap (λ y. find (λ z. q z.transfer) (option_to_list y)) k.is ∙ ap (λ b. cond b (Some k.it) None) (sym (fails k.it.transfer k.ranges))
+passed_over q x r kept fails = grind (arith, kept_ranges)
 
 pub nothing_there : (q : Descriptor → Bool) (x : Option RunningTransfer) → AreOfRunning None x → find (λ r. q r.transfer) (option_to_list x) ≡ None
 nothing_there q x kept = ap (λ y. find (λ z. q z.transfer) (option_to_list y)) (no_ranges x kept)

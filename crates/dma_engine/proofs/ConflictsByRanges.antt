@@ -1,6 +1,5 @@
 -- The ranges of what runs, and which running transfers conflict by them.
-use Rattle.std.proofs.Common.{◌≡◌, ℕ, ◌+◌, ◌≤◌, Option, Some, None, Bool, true, false, ◌||◌, not, refl, ap, sym, ◌∙◌, subst, arith, List}
-use Rattle.std.specs.Prelude.{nat_le}
+use Rattle.std.proofs.Common.{◌≡◌, ℕ, ◌≤◌, Option, Some, None, Bool, true, false, ◌||◌, not, ap, sym, ◌∙◌, arith, List}
 use Rattle.std.proofs.{lemmas.Bool.and_parts, lemmas.Bool.le-leb, lemmas.List.Sums.list_all-from_AllPass, Math.Bool.or_assoc}
 use Rattle.dma_mem.specs.declared.segment.Segment.{Segment}
 use Rattle.dma_mem.specs.Places.{Descriptor, all_below, destinations, is_free_of, lies_below, places, range_of, share, sources, touches, writes}
@@ -10,15 +9,10 @@ use Rattle.dma_engine.specs.{declared.access.Ranges.Ranges, inner.Ranges.AreOfRu
 -- ---- below a higher address
 
 all_below_more : (list : List Segment) (n m : ℕ) → n ≤ m → all_below list n ≡ true → all_below list m ≡ true
-all_below_more list n m l h =
-    list_all-from_AllPass (λ (s : Segment). nat_le (s.addr + s.len) m) list (λ i d k. le-leb _ _ (omega (arith, ends_below list n i d h k, l)))
+all_below_more list n m l h = grind (arith, list_all-from_AllPass, le-leb, ends_below)
 
 pub below_more_law : (t : Descriptor) (n m : ℕ) → n ≤ m → lies_below t n ≡ true → lies_below t m ≡ true
-below_more_law t n m l h =
-    let parts = and_parts (all_below t.src n) (all_below t.dst n) h in
-    let src = all_below_more t.src n m l parts.0 in
-    let dst = all_below_more t.dst n m l parts.1 in
-    rw (src, dst) refl
+below_more_law t n m l h = grind (arith, and_parts, all_below_more)
 
 -- ---- what conflicts
 
@@ -37,8 +31,7 @@ pub read_way : (r : Ranges) (t : Descriptor) (range : Segment) (b : Bool) → Ha
 read_way r t range b h is = is ∙ writes_ranges t range r.destinations h.destinations
 
 not_not : (b : Bool) → not (not b) ≡ b
-not_not true = refl
-not_not false = refl
+not_not b = grind (arith)
 
 pub start_way : (r : Ranges) (t other : Descriptor) (b : Bool) → HasRangesOf r t
     → b ≡ ((share (destinations other) (places r.destinations) || share (destinations other) (places r.sources)) || share (sources other)
@@ -59,15 +52,12 @@ pub record Kept (r : Ranges) (x : Option RunningTransfer) : Type 0 where
   pub ranges : HasRangesOf r it.transfer
 
 pub kept_ranges : (r : Ranges) (x : Option RunningTransfer) → AreOfRunning (Some r) x → Kept r x
-kept_ranges r None h = absurd h
-kept_ranges r (Some y) h = record { it = y; is = refl; ranges = h }
+kept_ranges r x h = grind (arith)
 
 -- nothing runs if none are kept
 pub no_ranges : (x : Option RunningTransfer) → AreOfRunning None x → x ≡ None
-no_ranges None h = refl
-no_ranges (Some y) h = absurd h
+no_ranges x h = grind (arith)
 
 -- they stay while the transfer does
 pub ranges_stay : (r : Option Ranges) (x y : RunningTransfer) → x.transfer ≡ y.transfer → AreOfRunning r (Some x) → AreOfRunning r (Some y)
-ranges_stay None x y same h = h
-ranges_stay (Some r) x y same h = subst (HasRangesOf r) same h
+ranges_stay r x y h h2 = grind (arith)

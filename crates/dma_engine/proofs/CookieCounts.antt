@@ -1,6 +1,6 @@
 -- The state of a channel after a submit and a terminate on it, and the counts that the ticks of a history sum up to.
-use Rattle.std.proofs.Common.{◌≡◌, ℕ, ◌+◌, ◌<◌, ◌≤◌, ◌^◌, List, [], ◌∷◌, length, drop, refl, ap, sym, ◌∙◌, arith, inl, inr, ◌++◌}
-use Rattle.std.specs.{List.All, Prelude.Option, Prelude.Some, Prelude.None}
+use Rattle.std.proofs.Common.{◌≡◌, ℕ, ◌+◌, ◌<◌, ◌≤◌, ◌^◌, List, [], ◌∷◌, length, drop, refl, ap, sym, ◌∙◌, arith, ◌++◌}
+use Rattle.std.specs.{List.All, Prelude.Option, Prelude.None}
 use Rattle.std.proofs.lemmas.List.{length-map, length_push, get_or-set_same, get_or_past, length-append, length-drop}
 use Rattle.std.proofs.lemmas.List.Elements.{All-cons, All-from_get_or, All-nil}
 use Rattle.std.proofs.{lemmas.Bool.cases_lt, lemmas.List.Sums.sum_by-le, Math.ListN.get_or-map}
@@ -10,7 +10,7 @@ use Rattle.dma_engine.specs.Object.{Allows, ChannelState, FrontIs, Object, after
 use Rattle.dma_engine.specs.Object.{aborted, with_transfer, with_all_aborted, with_front_laid}
 use Rattle.dma_engine.specs.{declared.call.Reply.Reply, declared.call.Reply.TheVariants.Cookie, declared.call.Reply.TheVariants.Count, View.state_at}
 use Rattle.dma_engine.specs.{declared.call.Reply.TheVariants.Refused, declared.fault.EngineFault.EngineFault, declared.entry.Entry.Entry}
-use Rattle.dma_engine.specs.{declared.outcome.TransResult.TransResult, declared.outcome.TransResult.TheVariants.Aborted, Answer.unless, Answer.channel_fault}
+use Rattle.dma_engine.specs.{declared.outcome.TransResult.TransResult, Answer.unless, Answer.channel_fault}
 use Rattle.dma_engine.specs.{Answer.done_on, Answer.submit_fault, Answer.terminated, History.IsLegal, Ticks.Counts, Ticks.Finished, Ticks.Submitted}
 use Rattle.dma_engine.specs.{Ticks.counts_of, Ticks.tick_channel, Ticks.ticks_of, Turn.with_entry, View.IsSound, View.View, View.object_of, View.channels}
 use Rattle.dma_engine.proofs.AnswerCounts.{finished_same, finished_with, object_one, ticks_append}
@@ -24,8 +24,7 @@ use Rattle.dma_engine.proofs.Sizes.{made, many_after as channels-after, many_cha
 -- Nothing refuses the call, and the reply and the view are those of an accepted one.
 not_refused : (f : Option EngineFault) (v w : View) (x : Reply × View) (reply : Reply) → ((fault : EngineFault) → reply ≡ Refused fault → ⊥)
     → (reply, w) ≡ unless f v x → (f ≡ None) × ((reply, w) ≡ x)
-not_refused None v w x reply is_answer h = (refl, h)
-not_refused (Some fault) v w x reply is_answer h = absurd (is_answer fault (ap (λ (y : Reply × View). y.0) h))
+not_refused f v w x reply h h2 = grind (arith)
 
 pub submits_add : SubmitsAdd
 submits_add v w ch cookie t h =
@@ -86,14 +85,10 @@ terminates_add v w ch count h =
 -- ---- the board of the ticks
 
 pub boards_count : BoardsCount
-boards_count v h =
-    let counted : AreCounted v.base = counted_base v.base h.opens in
-    board_is v.base v.history counted h.legal
+boards_count v h = grind (arith, counted_base, board_is)
 
 pub status_by_ticks : StatusByTicks
-status_by_ticks v ch cookie h =
-    let counted : AreCounted v.base = counted_base v.base h.opens in
-    status_by_board v ch cookie counted h.legal
+status_by_ticks v ch cookie h = grind (arith, counted_base, status_by_board)
 
 pub base_counts_bounded : BaseCountsBounded
 base_counts_bounded v h =
@@ -118,14 +113,10 @@ finished_bounded v h =
 
 -- a channel with a front exists
 front_there_law : (o : Object) (ch : ℕ) (P : Descriptor → Type 0) → FrontIs (channel o ch) P → ch < length o.channels
-front_there_law o ch P h = elim (cases_lt ch (length o.channels)) [
-  | inl less ↦ less
-  | inr past ↦ let g : FrontIs empty_channel P = rw (get_or_past o.channels ch empty_channel past) at h in absurd g.1
-]
+front_there_law o ch P h = grind (arith, cases_lt, get_or_past)
 
 finish_there : (o : Object) (ch : ℕ) (result : TransResult) (done : ℕ) → Allows o (FinishedEntry ch result done) → ch < length o.channels
-finish_there o ch Aborted done h = absurd h
-finish_there o ch result done h = front_there_law o ch _ h
+finish_there o ch result done h = grind (arith, front_there_law)
 
 -- the ticks of a legal history are of channels that are there
 ticks_there : (n : ℕ) (o : Object) (es : List Entry) → length o.channels ≡ n → IsLegal o es → All (λ t. tick_channel t < n) (ticks_of es)

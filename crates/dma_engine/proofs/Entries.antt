@@ -1,6 +1,6 @@
 -- What an engine keeps when an entry is added that changes no channel: a write, a read, a mark, an unmark, a raise.
 use Rattle.std.proofs.Common.{◌≡◌, ◌≢◌, ℕ, ◌+◌, ◌<◌, ◌≤◌, List, [], ◌∷◌, ◌++◌, length, None, true, refl, ap, sym, ◌∙◌, arith, take, drop, inr, subst, Bool}
-use Rattle.std.specs.{Prelude.slice_index, Prelude.slice_index_or, Prelude.slice_set, List.Contains, List.range_with_len, Map.keys_of}
+use Rattle.std.specs.{Prelude.slice_index, Prelude.slice_index_or, Prelude.slice_set, List.Contains, List.range_with_len}
 use Rattle.std.proofs.{lemmas.List.get_or_default, lemmas.List.FromFn.length-range_with_len, lemmas.Map.Made.keys_of-zip}
 use Rattle.dma_mem.specs.{Image.put, Image.bytes_at, Places.touches, Places.writes, declared.marks.MarkKind.MarkKind, declared.segment.Segment.Segment}
 use Rattle.dma_mem.proofs.{ImagePut.get_or_put_other, SharedPlaces.touches_false}
@@ -17,10 +17,7 @@ use Rattle.dma_mem.specs.Marking.{MarkList}
 -- an address that a write doesn't touch keeps its byte
 kept_byte : (memory : List ℕ) (addr : ℕ) (bytes : List ℕ) (a : ℕ) → ¬ Contains (range_with_len addr (length bytes)) a
     → slice_index (put memory (bytes_at addr bytes)) a ≡ slice_index memory a
-kept_byte memory addr bytes a h =
-    let range = range_with_len addr (length bytes) in
-    let keys : keys_of (bytes_at addr bytes) ≡ range = keys_of-zip range bytes (sym (length-range_with_len addr (length bytes))) in
-    get_or_put_other memory (bytes_at addr bytes) a (rw keys h)
+kept_byte memory addr bytes a h = grind (arith, keys_of-zip, length-range_with_len, get_or_put_other)
 
 pub holds_wrote : (p : Parts) (addr : ℕ) (bytes : List ℕ) → Holds p → write_fault (view_of p) addr (length bytes) ≡ None
     → Holds (with_entry_at p (Wrote addr bytes) (put p.memory (bytes_at addr bytes)) p.events p.marks)
@@ -72,10 +69,10 @@ noted p e events marks h allowed image channels flags marked =
     })
 
 pub holds_read : (p : Parts) (v : View) (addr n : ℕ) (bytes : List ℕ) → Holds p → view_of p ≡ v → read_fault v addr n ≡ None
-    → bytes ≡ take n (drop addr p.memory) → Holds (with_entry_at p (ReadBack addr bytes) p.memory p.events p.marks)
+    → bytes ≡ take n (drop addr (object_of v).image) → Holds (with_entry_at p (ReadBack addr bytes) p.memory p.events p.marks)
 holds_read p v addr n bytes h is free read =
     noted p (ReadBack addr bytes) p.events p.marks h (subst (λ (w : View). Allows (object_of w) (ReadBack addr bytes)) (sym is)
-    (read_entry v addr n bytes free (read_seen p v addr n bytes h is free read))) refl refl h.events h.marks
+    (read_entry v addr n bytes free read)) refl refl h.events h.marks
 
 -- ---- marks and events
 

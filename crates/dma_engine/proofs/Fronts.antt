@@ -1,13 +1,13 @@
 -- The front of a channel, by what the object knows of the channel and the instructions that it has executed.
 use Rattle.std.proofs.Common.{◌≡◌, ◌≢◌, ℕ, ◌+◌, ◌-◌, ◌<◌, ◌≤◌, List, [], ◌∷◌, take, drop, Option, Some, None, Bool, true, false, ◌&&◌, ◌||◌, zero, suc, refl}
-use Rattle.std.proofs.Common.{ap, sym, ◌∙◌, subst, arith, inl, inr}
-use Rattle.std.specs.{Prelude.is_some, Prelude.nat_lt, Prelude.◌==◌, Prelude.IfSome, Prelude.IsSome, Prelude.MatchOption, List.list_any, Option.option_map_or}
+use Rattle.std.proofs.Common.{ap, sym, ◌∙◌, subst, arith}
+use Rattle.std.specs.{Prelude.is_some, Prelude.nat_lt, Prelude.◌==◌, Prelude.IsSome, Prelude.MatchOption, List.list_any, Option.option_map_or}
 use Rattle.std.proofs.lemmas.Bool.{cases_lt, eq-eqb, eqb-true, ne_eqb, lt-ltb, ltb-false, false≢true, true≢false, and_right}
 use Rattle.dma_insn.specs.declared.chip.ChipInsn.TheVariants.{End, Sev, Wfe}
 use Rattle.dma_mem.specs.Places.{Descriptor, sources, destinations, size_of, lies_below}
 use Rattle.dma_mem.specs.{Marking.MarkList, Marking.meets_mark, declared.marks.MarkKind.MarkKind, declared.marks.MarkKind.TheVariants.Reading}
 use Rattle.dma_mem.specs.{declared.marks.MarkKind.TheVariants.Writing, Rules.IsTransfer}
-use Rattle.dma_chan.specs.{Compiled.cost, Traffic.member, Traffic.stored_after, Traffic.burst, Channel.ChannelValue, inner.At.IsAt, Programs.ProgramValue}
+use Rattle.dma_chan.specs.{Compiled.cost, Traffic.member, Traffic.stored_after, Traffic.burst, Channel.ChannelValue, inner.At.IsAt}
 use Rattle.dma_chan.proofs.ShapeLaws.{shape_is, stored_is}
 use Rattle.dma_engine.specs.declared.outcome.TransResult.TheVariants.{NoError, ReadFailed, WriteFailed, Aborted}
 use Rattle.dma_engine.specs.Object.{ChannelState, Allows, CanHaveStored, front, issued_front, finished}
@@ -24,16 +24,13 @@ done_by found = option_map_or (λ r. stored_after r.transfer r.taken) found 0
 -- ---- truth values and marks
 
 still_zero : (w : Bool) (n : ℕ) → w ≡ true → (w && nat_lt 0 n) ≡ false → n ≡ 0
-still_zero true n h e = let z = ltb-false 0 n e in omega arith
-still_zero false n h e = absurd cc
+still_zero w n h h2 = grind (arith, ltb-false)
 
 at_last_law : (s : Bool) (n m : ℕ) → (s && n == m) ≡ true → n ≡ m
-at_last_law true n m h = eqb-true n m h
-at_last_law false n m h = absurd cc
+at_last_law s n m h = grind (arith, eqb-true)
 
 either : (a b c : Bool) → (b ≡ true → c ≡ true) → (a || b) ≡ true → (a || c) ≡ true
-either true b c f h = refl
-either false b c f h = f h
+either a b c h h2 = grind (arith)
 
 any_longer : (p : ℕ → Bool) (xs : List ℕ) (b c : ℕ) → b ≤ c → list_any p (take b xs) ≡ true → list_any p (take c xs) ≡ true
 any_longer p xs zero c l h = absurd (false≢true h)
@@ -91,10 +88,7 @@ pub record Runs (p : Parts) (ch : ℕ) (q : Queue) : Type 0 where
 
 machine_at : (memory : List ℕ) (m : ChannelValue) (c : ChannelState) (t : Descriptor) → is_some m.program ≡ true → front c ≡ Some t → IsRun memory m c
     → IsAt t m.taken memory m
-machine_at memory m c t loaded is h = by m.program loaded (rw is at h) where
-  by : (o : Option ProgramValue) → is_some o ≡ true → IfSome o (λ _. IsAt t m.taken memory m) → IsAt t m.taken memory m
-  by None e g = absurd cc
-  by (Some p) e g = g
+machine_at memory m c t loaded is h = grind arith
 
 pub running : {p : Parts} {ch : ℕ} {q : Queue} → HoldsAt p ch q → is_some q.channel.program ≡ true → Runs p ch q
 running {p} {ch} {q} at loaded =
@@ -114,12 +108,7 @@ running {p} {ch} {q} at loaded =
 -- it has passed if it waits
 pub passed_next : (c : ChannelState) (t : Descriptor) (n : ℕ) → IsFront c t n → ((e : ℕ) (v : Bool) → member t n ≢ Wfe e v)
     → c.passed ≡ (is_some t.wait && nat_lt 0 (n + 1))
-passed_next c t n f other = f.passed ∙ by t.wait (shape_is t f.rules).wait_first where
-  by : (w : Option ℕ) → IfSome w (λ e. member t 0 ≡ Wfe e false) → (is_some w && nat_lt 0 n) ≡ (is_some w && nat_lt 0 (n + 1))
-  by None first = refl
-  by (Some e) first =
-      let some : n ≢ 0 = λ z. other e false (ap (member t) z ∙ first) in
-      lt-ltb 0 n (omega arith) ∙ sym (lt-ltb 0 (n + 1) (omega arith))
+passed_next c t n f other = grind (arith, shape_is, lt-ltb)
 
 pub has_passed : (c : ChannelState) (t : Descriptor) (n : ℕ) → IsFront c t n → ((e : ℕ) (v : Bool) → member t n ≢ Wfe e v) → IsSome t.wait → c.passed ≡ true
 has_passed c t n f other waits = passed_next c t n f other ∙ ap (λ b. b && nat_lt 0 (n + 1)) waits ∙ lt-ltb 0 (n + 1) (omega arith)
@@ -127,27 +116,15 @@ has_passed c t n f other waits = passed_next c t n f other ∙ ap (λ b. b && na
 -- it hasn't signalled where it doesn't signal now
 pub signalled_next : (c : ChannelState) (t : Descriptor) (n : ℕ) → IsFront c t n → ((e : ℕ) → member t n ≢ Sev e) → n + 1 < cost t
     → c.signalled ≡ (is_some t.signal && n + 1 == cost t - 1)
-signalled_next c t n f other next = f.signalled ∙ by t.signal (shape_is t f.rules).signal_last where
-  by : (w : Option ℕ) → IfSome w (λ e. (2 ≤ cost t) × (member t (cost t - 2) ≡ Sev e)) → (is_some w && n == cost t - 1) ≡ (is_some w && n + 1 == cost t - 1)
-  by None last = refl
-  by (Some e) last =
-      let not_there : n + 1 ≢ cost t - 1 = λ z. let at : n ≡ cost t - 2 = omega arith in other e (ap (member t) at ∙ last.1) in
-      ne_eqb n (cost t - 1) (λ z. omega arith) ∙ sym (ne_eqb (n + 1) (cost t - 1) not_there)
+signalled_next c t n f other next = grind (arith, shape_is, ne_eqb)
 
 -- one is left where it doesn't end now
 pub within_next : (c : ChannelState) (t : Descriptor) (n : ℕ) → IsFront c t n → member t n ≢ End → n + 1 < cost t
-within_next c t n f other = elim (cases_lt (n + 1) (cost t)) [
-  | inl less ↦ less
-  | inr past ↦
-      let last : n ≡ cost t - 1 = omega (arith, f.within, past) in
-      absurd (other (ap (member t) last ∙ (shape_is t f.rules).end_last))
-]
+within_next c t n f other = grind (arith, cases_lt, shape_is)
 
 -- it hasn't signalled before the end
 pub not_signalled : (c : ChannelState) (t : Descriptor) (n : ℕ) → IsFront c t n → member t n ≢ End → c.signalled ≡ false
-not_signalled c t n f other =
-    f.signalled ∙ ap (λ b. is_some t.signal && b) (ne_eqb n (cost t - 1) (λ z. other (ap (member t) z ∙ (shape_is t f.rules).end_last)))
-    ∙ and_right (is_some t.signal) false refl
+not_signalled c t n f other = grind (arith, ne_eqb, shape_is, and_right)
 
 -- ---- its end
 
@@ -194,10 +171,7 @@ Fitting c done o =
     (done ≤ size_of t) × (c.halted ≡ true → done ≡ 0) × (IsSome t.wait → c.passed ≡ false → done ≡ 0) × (c.signalled ≡ true → done ≡ size_of t))
 
 nothing_stored : (c : ChannelState) → c.signalled ≡ false → CanHaveStored c 0
-nothing_stored c h = by (issued_front c) where
-  by : (o : Option Descriptor) → Fitting c 0 o
-  by None = refl
-  by (Some t) = (omega arith, λ _. refl, λ _ _. refl, λ e. absurd (true≢false (sym e ∙ h)))
+nothing_stored c h = grind arith
 
 -- how many bytes of the front are stored when its channel is terminated
 pub stored_there : (v : View) (ch : ℕ) → IsSound v → ch < channels v → CanHaveStored (state_at v ch) (done_on v ch)
@@ -218,14 +192,8 @@ stored_there v ch h less = by _ refl where
 -- ---- whether a front has signalled
 
 and_true : (b : Bool) → (b && true) ≡ b
-and_true true = refl
-and_true false = refl
+and_true b = grind (arith)
 
 pub signalled_end : {p : Parts} {ch : ℕ} {q : Queue} → (r : Runs p ch q) → member r.transfer q.channel.taken ≡ End
     → (state_in p ch).signalled ≡ is_some r.transfer.signal
-signalled_end {p} {ch} {q} r is =
-    let t = r.transfer in
-    let n = q.channel.taken in
-    let last : n + 1 ≡ cost t = (shape_is t r.rules).end_only n r.within is in
-    let at : n ≡ cost t - 1 = omega arith in
-    r.signalled ∙ ap (λ b. is_some t.signal && b) (eq-eqb n (cost t - 1) at) ∙ and_true (is_some t.signal)
+signalled_end {p} {ch} {q} r is = grind (arith, shape_is, eq-eqb, and_true)

@@ -1,6 +1,7 @@
 -- A step whose answer is idle does not change the view.
-use Rattle.std.proofs.Common.{◌≡◌, ℕ, Bool, true, false, refl, ap, sym, ◌∙◌}
-use Rattle.std.specs.Prelude.{Result, Ok}
+use Rattle.std.proofs.Common.{arith}
+use Rattle.std.proofs.Common.{◌≡◌, ℕ, Bool, true, false}
+use Rattle.std.specs.Prelude.{Result}
 use Rattle.dma_mem.specs.declared.call.Call.TheVariants.{Step}
 use Rattle.dma_engine.specs.declared.turn.Turn.TheVariants.{Started, Moved, Finished}
 use Rattle.dma_engine.specs.{declared.call.Reply.Reply, declared.call.Reply.TheVariants.Turned, declared.fault.EngineFault.EngineFault, declared.turn.Turn.Turn}
@@ -16,10 +17,7 @@ is_idle (Turned (Finished cookie result residue)) = false
 is_idle _ = true
 
 idle_reply : (r : Result Turn EngineFault) → IsIdle r → is_idle (reply_of Turned r) ≡ true
-idle_reply (Ok (Started cookie)) idle = absurd idle
-idle_reply (Ok Moved) idle = absurd idle
-idle_reply (Ok (Finished cookie result residue)) idle = absurd idle
-idle_reply r idle = refl
+idle_reply r h = grind (arith)
 
 -- ---- the table of cases
 
@@ -27,16 +25,8 @@ abbrev Stays : View → Stepped → Type 0
 Stays v x = is_idle (reply_of Turned x.0) ≡ true → x.1 ≡ v
 
 turn_stays_law : (v : View) (ch : ℕ) → Stays v (turn v ch)
-turn_stays_law v ch = turn_cases v ch (Stays v) (record {
-  idle = (λ _. refl, λ _. refl, λ _. refl, λ _. refl, λ _. refl, λ _ _. refl, λ _ _. refl);
-  starts = λ _ _ is. absurd cc;
-  moves = λ _ _ is. absurd cc;
-  passes = λ _ _ _ is. absurd cc;
-  signals = λ _ _ _ is. absurd cc;
-  ends = λ _ _ _ _ is. absurd cc;
-})
+turn_stays_law v ch = grind (arith, turn_cases)
 
 -- the view after such an answer
 pub idle_steps_stay : (v w : View) (ch : ℕ) (r : Result Turn EngineFault) → IsIdle r → (reply_of Turned r, w) ≡ answer v (Step ch) → w ≡ v
-idle_steps_stay v w ch r idle is =
-    ap (λ (a : Reply × View). a.1) is ∙ turn_stays_law v ch (ap is_idle (sym (ap (λ (a : Reply × View). a.0) is)) ∙ idle_reply r idle)
+idle_steps_stay v w ch r idle is = grind (arith, turn_stays_law, idle_reply)

@@ -1,37 +1,36 @@
 -- What an engine keeps and answers when its channel executes an instruction and its front doesn't finish.
-use Rattle.std.proofs.Common.{◌≡◌, ◌≢◌, ℕ, ◌+◌, ◌<◌, List, ◌∷◌, ◌++◌, length, map, Some, None, Bool, true, refl, ap, sym, ◌∙◌, subst, arith, [], drop}
-use Rattle.std.proofs.Common.{false, inl, inr, take, ◌⊎◌}
-use Rattle.std.specs.Prelude.{slice_index_or, slice_set, is_some, IfSome, IsSomeAnd, slice_index, Ok}
+use Rattle.std.proofs.Common.{◌≡◌, ◌≢◌, ℕ, ◌+◌, ◌<◌, List, ◌∷◌, ◌++◌, length, map, Some, Bool, true, refl, ap, sym, ◌∙◌, subst, arith, [], drop}
+use Rattle.std.proofs.Common.{false, inl, inr, take}
+use Rattle.std.specs.Prelude.{slice_index_or, slice_set, is_some, slice_index, Ok}
 use Rattle.std.specs.{Option.option_to_list, List.All, List.Contains, List.zip, Map.keys_of}
-use Rattle.dma_insn.specs.declared.chip.ChipInsn.TheVariants.{Sev, Wfe, St, Ld, End}
+use Rattle.dma_insn.specs.declared.chip.ChipInsn.TheVariants.{Sev, Wfe, St}
 use Rattle.dma_insn.specs.declared.chip.ChipInsn.{ChipInsn}
 use Rattle.dma_mem.specs.Places.{Descriptor, Apart, moves, sources, destinations, lies_below, is_free_of}
 use Rattle.dma_mem.specs.{Image.put, Image.moves_of, Pages.Paged, Meeting.IsFree, declared.marks.MarkKind.TheVariants.Writing}
-use Rattle.dma_mem.specs.{declared.marks.MarkKind.TheVariants.Reading, Marking.meets_mark, declared.call.Call.TheVariants.Step}
+use Rattle.dma_mem.specs.{Marking.meets_mark, declared.call.Call.TheVariants.Step}
 use Rattle.dma_chan.specs.Channel.{ChannelValue, stepped, ahead_of}
 use Rattle.dma_chan.specs.Traffic.{member, stored_after, burst, read_places, written_places}
-use Rattle.dma_chan.specs.Layer.{Shared, StepAgrees, step_at, AnswerImplies, effect_of}
-use Rattle.dma_chan.specs.declared.turn.ChanTurn.TheVariants.{Moved, Fault, Waiting, Ended}
-use Rattle.dma_chan.specs.{inner.At.IsAt, Exec.read_at, Exec.fault_in, inner.Acts.IsOther, Ready.OnPages, Ready.ready_of, declared.turn.ChanTurn.ChanTurn}
-use Rattle.dma_chan.specs.{declared.turn.FaultKind.FaultKind, declared.turn.FaultKind.TheVariants.DataReadErr, declared.turn.FaultKind.TheVariants.DataWriteErr}
+use Rattle.dma_chan.specs.Layer.{Shared, StepAgrees, step_at}
+use Rattle.dma_chan.specs.declared.turn.ChanTurn.TheVariants.{Moved}
+use Rattle.dma_chan.specs.{inner.At.IsAt, Exec.read_at, Ready.OnPages, Ready.ready_of, declared.turn.ChanTurn.ChanTurn}
 use Rattle.dma_engine.specs.Object.{Object, ChannelState, channel, front, finished, after}
 use Rattle.dma_engine.specs.View.{View, ChannelSchedule, RunningTransfer, AreFree, runs, running_in, running, with_stored, memory_shown, IsSound}
 use Rattle.dma_engine.specs.inner.Holds.{Holds, IsPrepared, IsRun, Parts, view_of, schedule_of, taken_of, object_in, state_in}
-use Rattle.dma_engine.specs.inner.Due.{Adds, Finishes, failure_of, IsDue, IsNext}
+use Rattle.dma_engine.specs.inner.Due.{Adds, IsDue, IsNext}
 use Rattle.dma_engine.specs.{declared.entry.Entry.Entry, declared.queue.Queue.Queue, inner.Ranges.AreOfRunning, declared.entry.Entry.TheVariants.Passed}
 use Rattle.dma_engine.specs.{declared.entry.Entry.TheVariants.Signalled, declared.entry.Signaller.TheVariants.Channel}
 use Rattle.dma_engine.specs.{declared.fault.EngineFault.TheVariants.NoMemory, declared.call.Reply.TheVariants.Turned, declared.call.Reply.TheVariants.Refused}
-use Rattle.dma_engine.specs.{Turn.next_moved, Turn.turn, Turn.Stepped, Answer.CallAnswers}
+use Rattle.dma_engine.specs.{Turn.next_moved, Turn.turn, Answer.CallAnswers}
 use Rattle.std.proofs.lemmas.List.Elements.{Contains-append_cases, Contains-append_left, Contains-append_right, All-head, All-tail, All-map, All-weaker}
 use Rattle.std.proofs.lemmas.List.Elements.{All-append, All-cons}
-use Rattle.std.proofs.{lemmas.Bool.cases_Bool, lemmas.List.map-append, lemmas.List.get_or_default}
+use Rattle.std.proofs.{lemmas.List.map-append, lemmas.List.get_or_default}
 use Rattle.dma_mem.proofs.OverTransfers.{moves_writes, Contains_take, Contains_drop, over_sources}
 use Rattle.dma_mem.proofs.{ImagePut.get_or_put_other, SharedPlaces.is_free_of_true}
-use Rattle.dma_chan.proofs.{LayerLaws.step_is, LayerLaws.turn_reports, ReadyLaws.ready_is, ShapeLaws.stored_is, TreeCosts.cost_is}
+use Rattle.dma_chan.proofs.{LayerLaws.step_is, ReadyLaws.ready_is, ShapeLaws.stored_is, TreeCosts.cost_is}
 use Rattle.dma_engine.proofs.Changes.{LeadsTo, changed, holds_changed, leads_on, leads_still, run_kept, runs_here_law, runs_other, submitted_kept, view_changed}
 use Rattle.dma_engine.proofs.Memory.{DiffersAt, shown_stored, shown_beside}
 use Rattle.dma_engine.proofs.Queues.{holds_at, many_queues, runs_at, runs_front, taken_some}
-use Rattle.dma_engine.proofs.StepCases.{Clear, Due, GoesOn, due_ahead, due_there, pass_turn, plain_turn, signal_turn, step_starved, stepped_so}
+use Rattle.dma_engine.proofs.StepCases.{Due, GoesOn, due_ahead, due_there, pass_turn, signal_turn, step_starved, stepped_so}
 use Rattle.dma_engine.proofs.{ConflictsByRanges.ranges_stay, Fronts.Runs, Sizes.memory_size, StaysSound.stepped_sound, StaysSound.with_flags}
 use Rattle.dma_engine.proofs.{TransferRules.free_others, WhatRuns.above, WhatRuns.below, WhatRuns.running_split}
 use Rattle.dma_engine.specs.declared.turn.Turn.TheVariants.{Moved as TurnMoved, Moved}
@@ -84,10 +83,7 @@ taken_at : (t : Descriptor) (n : ℕ) (memory : List ℕ) (m : ChannelValue) →
 taken_at t n memory m h = let loaded : is_some m.program ≡ true = ap is_some h.program in taken_some m loaded ∙ ap (λ k. Some k) h.taken
 
 run_at : (t : Descriptor) (n : ℕ) (memory : List ℕ) (m : ChannelValue) (c : ChannelState) → front c ≡ Some t → IsAt t n memory m → IsRun memory m c
-run_at t n memory m c is h =
-    let here : IsAt t m.taken memory m = subst (λ k. IsAt t k memory m) (sym h.taken) h in
-    let at_front : IsSomeAnd (front c) (λ u. IsAt u m.taken memory m) = subst (λ f. IsSomeAnd f (λ u. IsAt u m.taken memory m)) (sym is) here in
-    subst (λ o. IfSome o (λ _. IsSomeAnd (front c) (λ u. IsAt u m.taken memory m))) (sym h.program) at_front
+run_at t n memory m c is h = grind arith
 
 module _ {p : Parts} {ch : ℕ} {q : Queue} (r : Runs p ch q) where
   abbrev old : Object
@@ -151,8 +147,7 @@ module _ {p : Parts} {ch : ℕ} {q : Queue} (r : Runs p ch q) where
       let there_is : running_in ch c x.taken ≡ Some now = ap (running_in ch c) taken ∙ runs_front ch c r.transfer (q.channel.taken + 1) r.is in
       let runs_is : runs to (slice_set schedule ch x) ch ≡ Some now = runs_here_law to schedule ch x at.within ∙ ap (λ y. running_in ch y x.taken) w.leads.here
       ∙ there_is in
-      let others : (e : ℕ) → e ≢ ch → runs old schedule e ≡ runs to (slice_set schedule ch x) e =
-      λ e k. sym (runs_other old to schedule ch e x k (w.leads.others e k)) in
+      let others : (e : ℕ) → e ≢ ch → runs old schedule e ≡ runs to (slice_set schedule ch x) e = grind (arith, runs_other) in
       let view_is = moved_view m.image m.flags history (ap (λ (y : ChanTurn × Shared). y.0) w.does) in
       let ranges = ranges_stay q.ranges before now refl (subst (AreOfRunning q.ranges) r.runs_is at.ranges) in
       rw w.does (holds_changed at d m.image m.flags history (p.steps + 1) to c (record {
@@ -181,7 +176,7 @@ module _ {p : Parts} {ch : ℕ} {q : Queue} (r : Runs p ch q) where
     pub events : flags ≡ to.events
     pub image : to.image ≡ old.image
 
-  holds_beside : (flags : List Bool) (history : List Entry) (to : Object) (a b : Bool) → MovesBeside flags history to a b →
+  pub holds_beside : (flags : List Bool) (history : List Entry) (to : Object) (a b : Bool) → MovesBeside flags history to a b →
       Holds (moved_on p ch q (step_of_it r).1.image (step_of_it r).1.flags history)
   holds_beside flags history to a b w =
       let t = r.transfer in
@@ -311,7 +306,7 @@ store_step : (p : Parts) (n : ℕ) (t : Descriptor) → member t n ≡ St → me
     step_at t n p.marks (shared p) ≡ (Moved, record { image = image; flags = p.events })
 store_step p n t is clear = rw (is, clear) refl
 
-holds_stored : {p : Parts} {ch : ℕ} {q : Queue} → (d : Due p ch q GoesOn) → member d.it.transfer q.channel.taken ≡ St →
+pub holds_stored : {p : Parts} {ch : ℕ} {q : Queue} → (d : Due p ch q GoesOn) → member d.it.transfer q.channel.taken ≡ St →
     meets_mark Writing p.marks (written_places d.it.transfer q.channel.taken) ≡ false → turn (view_of p) ch ≡ next_moved (view_of p) ch q.channel.taken →
     Holds (moved_on p ch q (step_of_it d.it).1.image (step_of_it d.it).1.flags p.history)
 holds_stored {p} {ch} {q} d is clear turns =
@@ -350,89 +345,3 @@ holds_stored {p} {ch} {q} d is clear turns =
           get_or_put_other p.memory (zip writes bytes) a (λ z.
           (is_free_of_true t u apart).writes_no_source a (in_part (stored_after t n) (destinations t) a (zip_keys writes bytes a z)) inside)) i;
     })
-
--- ---- an instruction that neither waits, signals nor ends
-
--- what the engine keeps, and the turn, if it moves
-pub record WentOn (p : Parts) (ch : ℕ) (q : Queue) (r : Runs p ch q) : Type 0 where
-  pub holds : Holds (moved_on p ch q (step_of_it r).1.image (step_of_it r).1.flags p.history)
-  pub turn_is : turn (view_of p) ch ≡ next_moved (view_of p) ch q.channel.taken
-
-pub went_on : {p : Parts} {ch : ℕ} {q : Queue} → (d : Due p ch q GoesOn) → (step_of_it d.it).0 ≡ Moved → WentOn p ch q d.it
-went_on {p} {ch} {q} d moved = by (member t n) refl d.holds where
-  t : Descriptor
-  t = d.it.transfer
-
-  n : ℕ
-  n = q.channel.taken
-
-  m : Shared
-  m = shared p
-
-  h : Holds p
-  h = d.it.at.holds
-
-  turns : Clear (view_of p) t n → turn (view_of p) ch ≡ next_moved (view_of p) ch n
-  turns clear = d.turn_is ∙ plain_turn (view_of p) ch n t d.holds clear
-
-  -- without a store
-  beside : member t n ≢ St → step_of_it d.it ≡ (Moved, m) → Clear (view_of p) t n → WentOn p ch q d.it
-  beside other does clear =
-      let turn_is = turns clear in
-      record {
-        holds = holds_beside d.it p.events p.history (object_in p) _ _
-            (record { other = other; does = does; turn_is = turn_is; leads = leads_still p ch; events = h.events; image = refl });
-        turn_is = turn_is;
-      }
-
-  by : (i : ChipInsn) → member t n ≡ i → IsOther i → WentOn p ch q d.it
-  by (Wfe e v) is o = absurd o
-  by (Sev e) is o = absurd o
-  by End is o = absurd o
-  by Ld is o = elim (cases_Bool (meets_mark Reading p.marks (read_places t n))) [
-    | inl hit ↦ let fails : (step_of_it d.it).0 ≡ Fault DataReadErr = rw (is, hit) refl in let never = sym fails ∙ moved in absurd cc
-    | inr free ↦ beside (λ f. let g = sym is ∙ f in absurd cc) (rw (is, free) refl)
-        (record { reads = λ _. ap (λ k. meets_mark Reading k (read_places t n)) (sym h.marks) ∙ free; writes = λ f. let g = sym is ∙ f in absurd cc })
-  ]
-  by St is o = elim (cases_Bool (meets_mark Writing p.marks (written_places t n))) [
-    | inl hit ↦ let fails : (step_of_it d.it).0 ≡ Fault DataWriteErr = rw (is, hit) refl in let never = sym fails ∙ moved in absurd cc
-    | inr free ↦
-        let is_turn = turns (record
-        { reads = λ f. let g = sym is ∙ f in absurd cc; writes = λ _. ap (λ k. meets_mark Writing k (written_places t n)) (sym h.marks) ∙ free }) in
-        record { holds = holds_stored d is free is_turn; turn_is = is_turn }
-  ]
-  by i is o = beside (λ f. let g = sym is ∙ f in absurd cc) (ap (λ j. effect_of j (read_places t n) (written_places t n) p.marks m) is)
-      (record { reads = λ f. let g = sym is ∙ f in absurd cc; writes = λ f. let g = sym is ∙ f in absurd cc })
-
--- It moves or it fails.
-pub moves_or_fails : (p : Parts) (t : Descriptor) (n : ℕ) → IsOther (member t n) → ((step_at t n p.marks (shared p)).0 ≡ Moved)
-    ⊎ ((kind : FaultKind) × ((step_at t n p.marks (shared p)).0 ≡ Fault kind))
-moves_or_fails p t n other = by _ (turn_reports t n p.marks (shared p)) where
-  by : (x : ChanTurn) → AnswerImplies t n p.marks (shared p) x → (x ≡ Moved) ⊎ ((kind : FaultKind) × (x ≡ Fault kind))
-  by Moved r = inl refl
-  by (Fault kind) r = inr (kind, refl)
-  by (Waiting e) r = let never : IsOther (Wfe e r.0.0) = subst IsOther r.0.1 other in absurd never
-  by Ended r = let never : IsOther End = subst IsOther r other in absurd never
-
--- If it fails, a load or a store has met a mark, and the front finishes with the result for it.
-pub failed : (p : Parts) (t : Descriptor) (n : ℕ) (kind : FaultKind) → Holds p → (step_at t n p.marks (shared p)).0 ≡ Fault kind
-    → Finishes (view_of p) (failure_of kind) t n
-failed p t n kind h fails = by kind (subst (AnswerImplies t n p.marks (shared p)) fails (turn_reports t n p.marks (shared p))) where
-  by : (k : FaultKind) → AnswerImplies t n p.marks (shared p) (Fault k) → Finishes (view_of p) (failure_of k) t n
-  by DataReadErr r = rw (← h.marks) r
-  by DataWriteErr r = rw (← h.marks) r
-  by k r = absurd r
-
-fault_is : (x : ChanTurn) (kind : FaultKind) → Some kind ≡ fault_in x → x ≡ Fault kind
-fault_is (Fault k) kind h = cc
-fault_is x kind h = absurd cc
-
-pub fails_next : {p : Parts} {ch : ℕ} {q : Queue} (kind : FaultKind) → (d : Due p ch q GoesOn) → Some kind ≡ fault_in (step_of_it d.it).0
-    → Finishes (view_of p) (failure_of kind) d.it.transfer q.channel.taken
-fails_next {p} {ch} {q} kind d is = failed p d.it.transfer q.channel.taken kind d.it.at.holds (fault_is _ kind is)
-
-pub moves_next : {p : Parts} {ch : ℕ} {q : Queue} → (d : Due p ch q GoesOn) → None ≡ fault_in (step_of_it d.it).0 → (turn (view_of p) ch).0 ≡ Ok Moved
-moves_next {p} {ch} {q} d is = elim (moves_or_fails p d.it.transfer q.channel.taken d.holds) [
-  | inl moved ↦ ap (λ (s : Stepped). s.0) (went_on d moved).turn_is
-  | inr fails ↦ let never = is ∙ ap fault_in fails.1 in absurd cc
-]

@@ -1,18 +1,17 @@
 -- Answers to consecutive calls, and answers when memory doesn't run out.
-use Rattle.std.proofs.Common.{inl, inr, ◌≡◌, ◌≢◌, ℕ, ◌+◌, List, [], ◌∷◌, ◌++◌, length, take, drop, Option, Some, None, Bool, true, refl, ap, ◌∙◌, subst, sym}
-use Rattle.std.specs.{Prelude.◌==◌, Prelude.◌||◌, Prelude.nat_le, Prelude.nat_lt, Prelude.not, Option.option_map}
+use Rattle.std.proofs.Common.{arith}
+use Rattle.std.proofs.Common.{inl, inr, ◌≡◌, ◌≢◌, ℕ, List, [], ◌∷◌, ◌++◌, Option, Some, None, Bool, refl, ap, ◌∙◌, subst, sym}
+use Rattle.std.specs.{Prelude.nat_le, Option.option_map}
 use Rattle.std.proofs.{lemmas.List.Elements.All-head, lemmas.List.Elements.All-tail, lemmas.Bool.cond_both}
-use Rattle.dma_mem.specs.declared.call.Call.TheVariants.{Write, Read, Submit, Issue, Pause, Resume, Terminate, Step, Mark, Raise, Checkpoint}
-use Rattle.dma_mem.specs.{Places.Descriptor, Places.lies_below, declared.call.Call.Call}
-use Rattle.dma_engine.specs.declared.call.Reply.TheVariants.{Done, Bytes, Cookie, Turned, Refused}
-use Rattle.dma_engine.specs.declared.entry.Entry.TheVariants.{Wrote, ReadBack, Submitted, Marked, Signalled}
-use Rattle.dma_engine.specs.declared.fault.EngineFault.TheVariants.{OutOfMemoryRange, Running, NoChannel, CookiesSpent, BadEvent, BadRange, NoMemory}
-use Rattle.dma_engine.specs.View.{View, RunningTransfer, object_of, channels, size, state_at}
-use Rattle.dma_engine.specs.Answer.{CallAnswers, AreAnswers, answer, answers, busy, cause, first_running, reply_of, unless, write_fault, read_fault}
-use Rattle.dma_engine.specs.Answer.{submit_fault, channel_fault, mark_fault, raise_fault, checkpoint_fault}
+use Rattle.dma_mem.specs.{Places.Descriptor, declared.call.Call.Call}
+use Rattle.dma_engine.specs.declared.call.Reply.TheVariants.{Turned, Refused}
+use Rattle.dma_engine.specs.declared.fault.EngineFault.TheVariants.{Running, NoChannel, NoMemory}
+use Rattle.dma_engine.specs.View.{View, RunningTransfer, channels}
+use Rattle.dma_engine.specs.Answer.{CallAnswers, AreAnswers, answer, answers, busy, cause, reply_of, unless}
+use Rattle.dma_engine.specs.Answer.{submit_fault, channel_fault}
 use Rattle.dma_engine.specs.Laws.{AnswersOne, AnswersAppend, AnswersSplit, AnswerIsOne, AnswersAreAnswers, AnswerUnlessNoMemory, AnswersUnlessNoMemory}
-use Rattle.dma_engine.specs.{declared.call.Reply.Reply, declared.entry.Signaller.TheVariants.Host, declared.fault.EngineFault.EngineFault}
-use Rattle.dma_engine.specs.{Object.last_cookie, Object.used, Turn.Stepped, Turn.turn, Turn.with_entry}
+use Rattle.dma_engine.specs.{declared.call.Reply.Reply, declared.fault.EngineFault.EngineFault}
+use Rattle.dma_engine.specs.{Turn.Stepped, Turn.turn}
 use Rattle.dma_engine.proofs.Turns.{answer_is, turn_cases}
 
 -- ---- calls in a row
@@ -46,8 +45,7 @@ IsOther reply = Unit {0}
 
 -- an answer other than that is one by its definition
 by_answer_law : (v w : View) (call : Call) (reply : Reply) → IsOther reply → (reply, w) ≡ answer v call → CallAnswers v call reply w
-by_answer_law v w call (Refused NoMemory) o is = absurd o
-by_answer_law v w call reply o is = is
+by_answer_law v w call reply h h2 = grind (arith)
 
 -- no cause of a refusal is `NoMemory`
 abbrev IsCause : Option EngineFault → Type 0
@@ -58,25 +56,19 @@ one_cause : (b : Bool) (fault : EngineFault) (others : Option EngineFault) → I
 one_cause b fault others h g = cond_both b (Some fault) others IsCause (λ _. h) (λ _. g)
 
 busy_cause : (x : Option RunningTransfer) → IsCause (busy x)
-busy_cause None = tt
-busy_cause (Some r) = tt
+busy_cause x = grind (arith)
 
 running_cause : (x : Option RunningTransfer) → IsCause (option_map (λ (r : RunningTransfer). Running r.ch r.cookie) x)
-running_cause None = tt
-running_cause (Some r) = tt
+running_cause x = grind (arith)
 
 channel_cause : (v : View) (ch : ℕ) → IsCause (channel_fault v ch)
 channel_cause v ch = one_cause (nat_le (channels v) ch) NoChannel None tt tt
 
 submit_cause : (v : View) (ch : ℕ) (t : Descriptor) → IsCause (submit_fault v ch t)
-submit_cause v ch t =
-    one_cause (nat_le (channels v) ch) NoChannel _ tt
-    (one_cause (not (lies_below t (size v))) OutOfMemoryRange _ tt
-    (one_cause (nat_le last_cookie (used (state_at v ch))) CookiesSpent None tt tt))
+submit_cause v ch t = grind (arith, one_cause)
 
 unless_other : (v : View) (f : Option EngineFault) (x : Reply × View) → IsCause f → IsOther x.0 → IsOther (unless f v x).0
-unless_other v None x f h = h
-unless_other v (Some fault) x f h = f
+unless_other v f x h h2 = grind (arith)
 
 -- ---- nor is the answer of a step
 
@@ -84,37 +76,10 @@ abbrev IsOtherStep : Stepped → Type 0
 IsOtherStep x = IsOther (reply_of Turned x.0)
 
 turn_other : (v : View) (ch : ℕ) → IsOtherStep (turn v ch)
-turn_other v ch = turn_cases v ch IsOtherStep (record {
-  idle = (tt, tt, tt, tt, tt, λ _. tt, λ _. tt);
-  starts = λ _ _. tt;
-  moves = λ _ _. tt;
-  passes = λ _ _ _. tt;
-  signals = λ _ _ _. tt;
-  ends = λ _ _ _ _. tt;
-})
+turn_other v ch = grind (arith, turn_cases)
 
 answer_other : (v : View) (call : Call) → IsOther (answer v call).0
-answer_other v (Write addr bytes) =
-    unless_other v (write_fault v addr (length bytes)) (Done, with_entry v (Wrote addr bytes))
-    (one_cause (nat_lt (size v) (addr + length bytes)) OutOfMemoryRange _ tt (busy_cause _)) tt
-answer_other v (Read addr len) =
-    let bytes = take len (drop addr (object_of v).image) in
-    unless_other v (read_fault v addr len) (Bytes bytes, with_entry v (ReadBack addr bytes))
-    (one_cause (nat_lt (size v) (addr + len)) OutOfMemoryRange _ tt (busy_cause _)) tt
-answer_other v (Submit ch t) =
-    let cookie = used (state_at v ch) + 1 in
-    unless_other v (submit_fault v ch t) (Cookie cookie, with_entry v (Submitted ch t cookie)) (submit_cause v ch t) tt
-answer_other v (Issue ch) = unless_other v (channel_fault v ch) _ (channel_cause v ch) tt
-answer_other v (Pause ch) = unless_other v (channel_fault v ch) _ (channel_cause v ch) tt
-answer_other v (Resume ch) = unless_other v (channel_fault v ch) _ (channel_cause v ch) tt
-answer_other v (Terminate ch) = unless_other v (channel_fault v ch) _ (channel_cause v ch) tt
-answer_other v (Step ch) = turn_other v ch
-answer_other v (Mark kind s) =
-    unless_other v (mark_fault s) (Done, with_entry v (Marked kind s)) (one_cause (s.len == 0 || nat_lt 4294967296 (s.addr + s.len)) BadRange None tt tt) tt
-answer_other v (Raise event) =
-    unless_other v (raise_fault event) (Done, with_entry v (Signalled Host event)) (one_cause (nat_lt 31 event) BadEvent None tt tt) tt
-answer_other v Checkpoint = unless_other v (checkpoint_fault v) _ (running_cause (first_running v (λ _. true))) tt
-answer_other v call = tt
+answer_other v call = grind (arith, unless_other, one_cause, busy_cause, submit_cause, channel_cause, turn_other, running_cause)
 
 pub answer_is_one : AnswerIsOne
 answer_is_one v call = by_answer_law v (answer v call).1 call (answer v call).0 (answer_other v call) refl

@@ -10,6 +10,9 @@ use Rattle.dma_engine.specs.{Object.Object, View.RunningTransfer, View.ChannelSc
 use Rattle.dma_chan.specs.Traffic.{stored_after}
 use Rattle.dma_engine.proofs.WhatRuns.{All_find, above, above_same, below, below_same, running_split}
 
+pub shown_both : (o p : Object) (s t : List ChannelSchedule) → o.image ≡ p.image → running o s ≡ running p t → memory_shown o s ≡ memory_shown p t
+shown_both o p s t image runs_same = ap (λ l. over o.image (map with_stored l)) runs_same ∙ ap (λ m. over m (map with_stored (running p t))) image
+
 -- the running transfers depend on the channels, so a change of only the image keeps them
 pub running_image : (o : Object) (schedule : List ChannelSchedule) (image : List ℕ) → running (record o { image = image }) schedule ≡ running o schedule
 unfolding running

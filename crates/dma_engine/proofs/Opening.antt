@@ -1,7 +1,7 @@
 -- What a new engine keeps.
-use Rattle.std.proofs.Common.{◌≡◌, ◌≢◌, ℕ, ◌+◌, ◌<◌, ◌≤◌, List, [], ◌∷◌, length, map, Option, None, true, false, refl, ap, sym, ◌∙◌, subst, arith, inl, inr}
+use Rattle.std.proofs.Common.{◌≡◌, ◌≢◌, ℕ, ◌+◌, ◌<◌, ◌≤◌, List, [], ◌∷◌, length, map, Option, None, true, refl, ap, sym, ◌∙◌, subst, arith}
 use Rattle.std.proofs.Common.{zero, suc}
-use Rattle.std.specs.{Prelude.List, Prelude.Bool, Prelude.slice_index_or, Prelude.replicate, Prelude.nat_lt, Prelude.◌==◌, List.filter_map, List.range_with_len}
+use Rattle.std.specs.{Prelude.List, Prelude.Bool, Prelude.slice_index_or, Prelude.replicate, List.filter_map, List.range_with_len}
 use Rattle.dma_mem.specs.{Image.is_size, Image.over, Image.after_moves, Flags.all_clear}
 use Rattle.std.proofs.lemmas.Bool.{cases_lt, ne_eqb, le-ltb}
 use Rattle.std.proofs.lemmas.List.{length-replicate, get_or-replicate, get_or_past}
@@ -10,24 +10,18 @@ use Rattle.dma_engine.specs.View.{IsSound, idle, new_fault, new_view, state_at}
 use Rattle.dma_engine.specs.inner.Holds.{Holds, IsPrepared, Parts, view_of, schedule_of, new_queue}
 use Rattle.dma_engine.specs.{Object.IsBase, Object.channel, Object.empty_channel, Object.opening, declared.queue.Queue.Queue, inner.Ranges.AreOfRunning}
 use Rattle.dma_mem.proofs.PageImages.{put_none}
-use Rattle.dma_engine.proofs.{Sizes.opening_flags, Sizes.opening_many, Sizes.opening_size, TransferRules.AreMarks}
+use Rattle.dma_engine.proofs.{Sizes.opening_flags, Sizes.opening_many, Sizes.opening_size}
 
 map_same : (n : ℕ) → map schedule_of (replicate n new_queue) ≡ replicate n idle
 map_same zero = refl
 map_same (suc n) = ap (λ l. idle ∷ l) (map_same n)
 
 idle_at : (n ch : ℕ) → slice_index_or (replicate n idle) ch idle ≡ idle
-idle_at n ch = elim (cases_lt ch n) [
-  | inl less ↦ get_or-replicate n ch idle idle less
-  | inr past ↦ get_or_past (replicate n idle) ch idle (omega (arith, length-replicate n idle))
-]
+idle_at n ch = grind (arith, cases_lt, get_or-replicate, get_or_past, length-replicate)
 
 new_at : (bytes n ch : ℕ) → channel (opening bytes n) ch ≡ empty_channel
 unfolding opening
-new_at bytes n ch = elim (cases_lt ch n) [
-  | inl less ↦ get_or-replicate n ch empty_channel empty_channel less
-  | inr past ↦ get_or_past (replicate n empty_channel) ch empty_channel (omega (arith, length-replicate n empty_channel))
-]
+new_at bytes n ch = grind (arith, cases_lt, get_or-replicate, get_or_past, length-replicate)
 
 none_runs : (bytes n ch : ℕ) → runs (opening bytes n) (replicate n idle) ch ≡ None
 none_runs bytes n ch = ap (λ (x : ChannelSchedule). running_in ch (channel (opening bytes n) ch) x.taken) (idle_at n ch)
@@ -48,11 +42,7 @@ unfolding opening after_moves
 opening_shown bytes n = sym (ap (λ l. over (opening bytes n).image (map with_stored l)) (nothing_runs bytes n) ∙ put_none (replicate bytes 0))
 
 opening_fits : (bytes n : ℕ) → Fits (opening bytes n) (replicate n idle)
-opening_fits bytes n = record {
-  many = length-replicate n idle ∙ sym (opening_many bytes n);
-  each = λ ch less. rw (new_at bytes n ch, idle_at n ch) (refl, refl);
-  free = λ c d i j k. rw (none_runs bytes n c) tt;
-}
+opening_fits bytes n = grind (arith, length-replicate, opening_many, new_at, idle_at, none_runs)
 
 opening_events : (bytes n : ℕ) → all_clear ≡ (opening bytes n).events
 unfolding opening all_clear
@@ -64,12 +54,7 @@ opening_marks bytes n = refl
 
 -- the opening object is a base
 pub base_opening : (bytes n : ℕ) → IsBase (opening bytes n)
-base_opening bytes n = record {
-  flags = opening_flags bytes n;
-  marks = subst AreMarks (opening_marks bytes n) (λ k d l. absurd (omega (arith, l)));
-  each = λ ch. rw (new_at bytes n ch)
-      (record { outcomes = refl; rests = (refl, refl); counts = (omega arith, omega arith, omega arith); rules = λ k d l. absurd (omega (arith, l)) });
-}
+base_opening bytes n = grind (arith, opening_flags, opening_marks, new_at)
 
 -- the view of a new engine is sound
 pub new_sound : (bytes n : ℕ) → new_fault bytes n ≡ None → IsSound (new_view bytes n)
@@ -128,7 +113,4 @@ holds_new bytes pages n made =
     }
 
 pub made_from : (bytes many : ℕ) → many ≢ 0 → many ≤ 8 → is_size bytes ≡ true → new_fault bytes many ≡ None
-made_from bytes many some few size =
-    let e : (many == 0) ≡ false = ne_eqb many 0 some in
-    let f : nat_lt 8 many ≡ false = le-ltb 8 many few in
-    rw (e, f, size) refl
+made_from bytes many some few size = grind (arith, ne_eqb, le-ltb)

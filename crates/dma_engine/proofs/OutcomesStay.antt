@@ -1,14 +1,13 @@
 -- A known outcome never changes, and after calls it is known or forgotten.
-use Rattle.std.proofs.Common.{◌≡◌, ℕ, ◌-◌, List, [], ◌∷◌, Some, None, Bool, true, false, refl, ap, ◌∙◌, inl, inr, ◌≤◌, sym, subst, arith}
-use Rattle.std.specs.Prelude.{slice_get, if◌then◌else◌, nat_le}
+use Rattle.std.proofs.Common.{◌≡◌, ℕ, List, [], ◌∷◌, Some, Bool, true, false, refl, ap, ◌∙◌, inl, ◌≤◌, sym, subst, arith}
+use Rattle.std.specs.Prelude.{slice_get}
 use Rattle.std.proofs.{lemmas.Bool.cases_eq, lemmas.Bool.cases_Bool, lemmas.List.get_or-set_other, lemmas.Option.slice_get_within}
-use Rattle.dma_engine.specs.declared.entry.Entry.TheVariants.{Submitted, Issued, Passed, Signalled, Finished, Terminated}
-use Rattle.dma_engine.specs.Object.{Object, ChannelState, after, channel, empty_channel, with_channel, with_flag, with_front_laid, finished}
-use Rattle.dma_engine.specs.Answer.{Extends, KeepsOutcomes, result_of, AreAnswers, CallAnswers, Remembers, checkpoint_fault, checkpointed, is_checkpoint}
-use Rattle.dma_engine.specs.{declared.entry.Entry.Entry, declared.entry.Signaller.TheVariants.Channel, declared.outcome.Outcome.Outcome, History.object_after}
+use Rattle.dma_engine.specs.Object.{Object, ChannelState, after, channel, with_channel, finished}
+use Rattle.dma_engine.specs.Answer.{Extends, KeepsOutcomes, AreAnswers, CallAnswers, Remembers, checkpoint_fault, checkpointed, is_checkpoint}
+use Rattle.dma_engine.specs.{declared.entry.Entry.Entry, declared.outcome.Outcome.Outcome, History.object_after}
 use Rattle.dma_engine.specs.{View.View, View.object_of, declared.call.Reply.Reply, declared.call.Reply.TheVariants.Done, View.state_at}
 use Rattle.dma_engine.proofs.{Boards.with_channel_at, Histories.object_after_append, Queues.slice_get_longer, CallLists.answers_extend, Checkpoint.accepted}
-use Rattle.dma_engine.proofs.{StaysSound.forgotten_at}
+use Rattle.dma_engine.proofs.{Checkpoint.forgotten_at}
 use Rattle.dma_mem.specs.{declared.call.Call.Call, declared.call.Call.TheVariants.Checkpoint}
 
 -- each outcome of the first channel is one of the second, at its place
@@ -20,21 +19,10 @@ keeps_all_law : (c : ChannelState) → Keeps c c
 keeps_all_law c = record { forgotten = refl; outcomes = λ k x g. g }
 
 keeps_with : (o : Object) (ch : ℕ) (c : ChannelState) → Keeps (channel o ch) c → (d : ℕ) → Keeps (channel o d) (channel (with_channel o ch c) d)
-keeps_with o ch c h d = elim (cases_eq d ch) [
-  | inl e ↦ elim (with_channel_at o ch c) [ inl f ↦ rw (e, f) h | inr f ↦ rw (e, f) (keeps_all_law (channel o ch)) ]
-  | inr e ↦ rw (get_or-set_other o.channels ch d c empty_channel e) (keeps_all_law (channel o d))
-]
+keeps_with o ch c h d = grind (arith, cases_eq, with_channel_at, keeps_all_law, get_or-set_other)
 
 keeps_after : (o : Object) (e : Entry) (d : ℕ) → Keeps (channel o d) (channel (after o e) d)
-keeps_after o (Submitted ch t cookie) d = keeps_with o ch _ (record { forgotten = refl; outcomes = λ k x g. g }) d
-keeps_after o (Issued ch) d = keeps_with o ch _ (record { forgotten = refl; outcomes = λ k x g. g }) d
-keeps_after o (Passed ch event) d = keeps_with (with_flag o event false) ch _ (record { forgotten = refl; outcomes = λ k x g. g }) d
-keeps_after o (Signalled (Channel ch) event) d = keeps_with (with_flag o event true) ch _ (record { forgotten = refl; outcomes = λ k x g. g }) d
-keeps_after o (Finished ch result done) d =
-    keeps_with (with_front_laid o ch done) ch _ (record { forgotten = refl; outcomes = λ k x g. slice_get_longer (channel o ch).outcomes _ k x g }) d
-keeps_after o (Terminated ch done count) d =
-    keeps_with (with_front_laid o ch done) ch _ (record { forgotten = refl; outcomes = λ k x g. slice_get_longer (channel o ch).outcomes _ k x g }) d
-keeps_after o e d = keeps_all_law (channel o d)
+keeps_after o e d = grind (arith, keeps_with, slice_get_longer, keeps_all_law)
 
 keeps_object : (o : Object) (es : List Entry) (d : ℕ) → Keeps (channel o d) (channel (object_after o es) d)
 keeps_object o [] d = keeps_all_law (channel o d)
@@ -48,31 +36,10 @@ pub forgotten_stays : (o : Object) (es : List Entry) (ch : ℕ) → (channel (ob
 forgotten_stays o es ch = (keeps_object o es ch).forgotten
 
 pub kept : (old new : View) → Extends old new → KeepsOutcomes old new
-kept old new h =
-    let more = h.1 in
-    let o = object_of old in
-    let is : object_of new ≡ object_after o more.0 = ap (λ b. object_after b new.history) h.0 ∙ ap (object_after old.base) more.1
-    ∙ object_after_append old.base old.history more.0 in
-    λ ch cookie x g.
-    let c = channel o ch in
-    let d = channel (object_after o more.0) ch in
-    let keeps = keeps_object o more.0 ch in
-    let n = cookie - c.forgotten - 1 in
-    let by : (b : Bool) → (if b then None else slice_get c.outcomes n) ≡ Some x → (if b then None else slice_get d.outcomes n) ≡ Some x =
-    λ b. elim b as (λ b. (if b then None else slice_get c.outcomes n) ≡ Some x → (if b then None else slice_get d.outcomes n) ≡ Some x) [
-      | true ↦ λ e. absurd cc
-      | false ↦ λ e. keeps.outcomes n x e
-    ] in
-    ap (λ y. result_of y ch cookie) is
-    ∙ ap (λ f. if nat_le cookie f then None else slice_get d.outcomes (cookie - f - 1)) keeps.forgotten
-    ∙ by (nat_le cookie c.forgotten) g
+kept old new h = grind (arith, object_after_append, keeps_object)
 
 pub extends_forgotten : (old new : View) → Extends old new → (ch : ℕ) → (state_at new ch).forgotten ≡ (state_at old ch).forgotten
-extends_forgotten old new h ch =
-    let more = h.1 in
-    let is : object_of new ≡ object_after (object_of old) more.0 = ap (λ b. object_after b new.history) h.0 ∙ ap (object_after old.base) more.1
-    ∙ object_after_append old.base old.history more.0 in
-    ap (λ (o : Object). (channel o ch).forgotten) is ∙ forgotten_stays (object_of old) more.0 ch
+extends_forgotten old new h ch = grind (arith, object_after_append, forgotten_stays)
 
 -- ---- after calls, checkpoints included
 
@@ -87,19 +54,10 @@ forgotten_next v w ch is = ap (λ (u : View). (state_at u ch).forgotten) is ∙ 
 
 -- and an outcome, whose cookie is then among the forgotten ones
 forgets : (v w : View) → w ≡ checkpointed v → Remembers v w
-forgets v w is ch cookie x lost =
-    let c = state_at v ch in
-    let next = forgotten_next v w ch is in
-    inr (elim (cases_Bool (nat_le cookie c.forgotten)) [
-      | inl e ↦ let none = rw e at lost in absurd cc
-      | inr e ↦ omega (arith, slice_get_within c.outcomes (cookie - c.forgotten - 1) x (rw e at lost), next)
-    ])
+forgets v w is ch cookie x lost = grind (arith, forgotten_next, cases_Bool, slice_get_within)
 
 then_remembers : (u v w : View) → Remembers u v → Remembers v w → ((ch : ℕ) → (state_at v ch).forgotten ≤ (state_at w ch).forgotten) → Remembers u w
-then_remembers u v w a b rises ch cookie x is = elim (a ch cookie x is) [
-  | inl stays ↦ b ch cookie x stays
-  | inr gone ↦ inr (omega (arith, gone, rises ch))
-]
+then_remembers u v w a b rises ch cookie x is = grind arith
 
 extends_keeps : (v w : View) → Extends v w → RemembersOn v w
 extends_keeps v w h = record { remembers = λ ch cookie x is. inl (kept v w h ch cookie x is); rises = λ ch. omega (arith, extends_forgotten v w h ch) }
@@ -108,16 +66,14 @@ checkpoint_keeps : (v w : View) → w ≡ checkpointed v → RemembersOn v w
 checkpoint_keeps v w is = record { remembers = forgets v w is; rises = λ ch. omega (arith, forgotten_next v w ch is) }
 
 only_done : (call : Call) (reply : Reply) → is_checkpoint call reply ≡ true → (call ≡ Checkpoint) × (reply ≡ Done)
-only_done Checkpoint Done e = (refl, refl)
-only_done call reply e = absurd cc
+only_done call reply h = grind (arith)
 
 -- one call, by whether it was an accepted checkpoint
 by_test_law : (v w : View) (call : Call) (reply : Reply) (b : Bool) → is_checkpoint call reply ≡ b → CallAnswers v call reply w → RemembersOn v w
 by_test_law v w call reply false e h = extends_keeps v w (answers_extend v w call reply e h)
 by_test_law v w call reply true e h =
     let both = only_done call reply e in
-    let lost : CallAnswers v Checkpoint Done w =
-    subst (λ (r : Reply). CallAnswers v Checkpoint r w) both.1 (subst (λ (c : Call). CallAnswers v c reply w) both.0 h) in
+    let lost : CallAnswers v Checkpoint Done w = grind (arith) in
     checkpoint_keeps v w (accepted (checkpoint_fault v) v w (checkpointed v) lost)
 
 call_keeps_law : (v w : View) (call : Call) (reply : Reply) → CallAnswers v call reply w → RemembersOn v w

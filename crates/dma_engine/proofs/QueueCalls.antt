@@ -1,12 +1,13 @@
 -- What an engine keeps when one channel changes and what runs doesn't: pause, resume, issue, submit.
-use Rattle.std.proofs.Common.{◌≡◌, ℕ, ◌+◌, List, [], ◌∷◌, ◌++◌, length, map, Option, None, Bool, refl, ap, sym, ◌∙◌, subst, arith, inl, inr}
+use Rattle.dma_engine.proofs.Memory.{shown_both}
+use Rattle.std.proofs.Common.{◌≡◌, ℕ, ◌+◌, List, [], ◌∷◌, ◌++◌, length, Option, None, Bool, refl, ap, sym, ◌∙◌, subst, arith, inl, inr}
 use Rattle.std.specs.Prelude.{slice_set}
 use Rattle.std.proofs.lemmas.Bool.{cases_lt, cases_eq}
 use Rattle.std.proofs.lemmas.List.{length_push, get_or_append_left, get_or_push, take-append-le}
-use Rattle.dma_mem.specs.{Places.Descriptor, Image.over, Rules.IsTransfer}
+use Rattle.dma_mem.specs.{Places.Descriptor, Rules.IsTransfer}
 use Rattle.dma_engine.specs.declared.entry.Entry.TheVariants.{Submitted, Issued}
 use Rattle.dma_engine.specs.Object.{Object, ChannelState, after, channel, with_transfer, no_transfer, used, with_channel}
-use Rattle.dma_engine.specs.View.{View, ChannelSchedule, runs, running_in, running, with_stored, memory_shown, IsSound}
+use Rattle.dma_engine.specs.View.{View, ChannelSchedule, runs, running_in, running, IsSound}
 use Rattle.dma_engine.specs.Answer.{with_pause, submit_fault}
 use Rattle.dma_engine.specs.inner.Holds.{Holds, IsPrepared, IsQueue, Parts, queue_submitted, view_of, schedule_of, HasSubmitted, object_in, state_in}
 use Rattle.dma_engine.specs.{declared.entry.Entry.Entry, declared.queue.Queue.Queue, declared.access.Ranges.Ranges, Turn.with_entry, inner.Ranges.AreOfRunning}
@@ -14,9 +15,6 @@ use Rattle.dma_engine.proofs.Changes.{LeadsTo, changed, holds_changed, leads_on,
 use Rattle.dma_engine.proofs.Changes.{submitted_kept, view_changed}
 use Rattle.dma_engine.proofs.StaysSound.{front_submitted, issue_sound, pause_sound, runs_issued, runs_submitted, submit_sound}
 use Rattle.dma_engine.proofs.{Queues.HoldsAt, Queues.slice_get_push, Queues.slice_get_push_last, WhatRuns.running_same}
-
-pub shown_both : (o p : Object) (s t : List ChannelSchedule) → o.image ≡ p.image → running o s ≡ running p t → memory_shown o s ≡ memory_shown p t
-shown_both o p s t image runs_same = ap (λ l. over o.image (map with_stored l)) runs_same ∙ ap (λ m. over m (map with_stored (running p t))) image
 
 module _ {p : Parts} {ch : ℕ} {q : Queue} (at : HoldsAt p ch q) where
   abbrev v : View

@@ -1,13 +1,13 @@
 -- A queue and what the object knows of its channel.
-use Rattle.std.proofs.Common.{◌≡◌, ℕ, ◌+◌, ◌-◌, ◌<◌, List, [], ◌∷◌, ◌++◌, length, Option, Some, None, Bool, true, false, cond, refl, ap, sym, ◌∙◌, arith, suc}
+use Rattle.std.proofs.Common.{◌≡◌, ℕ, ◌+◌, ◌-◌, ◌<◌, List, [], ◌∷◌, ◌++◌, length, Some, None, true, false, refl, ap, sym, ◌∙◌, arith, suc}
 use Rattle.std.proofs.Common.{zero, inl, inr}
-use Rattle.std.specs.{Prelude.IsSomeAnd, Prelude.is_some, Prelude.slice_get, Prelude.slice_index_or, Prelude.slice_set, Prelude.nat_lt, Option.option_map}
+use Rattle.std.specs.{Prelude.IsSomeAnd, Prelude.is_some, Prelude.slice_get, Prelude.slice_index_or, Prelude.slice_set, Prelude.nat_lt}
 use Rattle.std.proofs.{lemmas.Bool.cases_lt, lemmas.Bool.le-ltb, lemmas.Bool.lt-ltb, lemmas.Bool.ltb-true, lemmas.Option.slice_get_within}
 use Rattle.std.proofs.{lemmas.Option.slice_get-get_or, lemmas.List.get_or-map, lemmas.List.length-map, lemmas.List.get_or-take, lemmas.List.set-get_or}
-use Rattle.dma_chan.specs.{Channel.ChannelValue, Programs.ProgramValue}
+use Rattle.dma_chan.specs.{Channel.ChannelValue}
 use Rattle.dma_mem.specs.Places.{Descriptor}
 use Rattle.dma_engine.specs.Object.{ChannelState, channel, front, issued_front, no_transfer, used, finished}
-use Rattle.dma_engine.specs.View.{Agrees, running_in, idle, channels, View, ChannelSchedule, EngineState, state_at}
+use Rattle.dma_engine.specs.View.{Agrees, running_in, idle, channels, View, EngineState}
 use Rattle.dma_engine.specs.inner.Holds.{IsQueue, Holds, Parts, view_of, schedule_of, taken_of, state_in, runs_in}
 use Rattle.dma_engine.specs.{declared.entry.Entry.Entry, declared.queue.Queue.Queue, inner.Found.given_by, inner.Found.transfer_at, inner.Ranges.AreOfRunning}
 
@@ -27,18 +27,7 @@ pub record Front (c : ChannelState) (P : Descriptor → Type 0) : Type 0 where
   pub below : finished c < c.issued
 
 pub front_where : (c : ChannelState) (P : Descriptor → Type 0) → IsSomeAnd (issued_front c) P → Front c P
-front_where c P h = by _ _ refl refl h where
-  by : (b : Bool) (o : Option Descriptor) → nat_lt (finished c) c.issued ≡ b → front c ≡ o → IsSomeAnd (cond b o None) P → Front c P
-  by false o e f g = absurd g
-  by true None e f g = absurd g
-  by true (Some t) e f g = record {
-    transfer = t;
-    is = f;
-    issued = rw e f;
-    holds = g;
-    within = omega (arith, slice_get_within c.submitted (length c.outcomes) t f);
-    below = ltb-true _ _ e;
-  }
+front_where c P h = grind (arith, slice_get_within, ltb-true)
 
 -- where an issued front is known, it is the front
 pub front_known : (c : ChannelState) (t : Descriptor) → issued_front c ≡ Some t → Front c (λ u. u ≡ t)
@@ -75,22 +64,7 @@ pub queue_there : {p : Parts} {v : View} {ch i : ℕ} → Holds p → view_of p 
 queue_there {p} h is there = omega (arith, many_queues p h, ap channels is, there.0, there.1)
 
 pub holds_at : (p : Parts) → Holds p → (ch : ℕ) (q : Queue) → ch < length p.queues → q ≡ slice_index_or p.queues ch q → HoldsAt p ch q
-holds_at p h ch q less read =
-    let v : View = view_of p in
-    let inside : ch < channels v = omega (arith, many_queues p h, less) in
-    let at : slice_index_or v.schedule ch idle ≡ schedule_of q = get_or-map schedule_of p.queues ch q idle less ∙ ap schedule_of (sym read) in
-    record {
-      holds = h;
-      less = less;
-      read = read;
-      there = inside;
-      within = omega (arith, h.sound.fits.many, inside);
-      tied = rw (← read) at (h.each ch q less);
-      agrees = rw at at (h.sound.fits.each ch inside);
-      runs_is = ap (λ (s : ChannelSchedule). running_in ch (state_at v ch) s.taken) at;
-      schedule_is = at;
-      ranges = rw (← read) at (h.ranges ch q less);
-    }
+holds_at p h ch q less read = grind (arith, many_queues, get_or-map)
 
 pub holds_there : {p : Parts} {v : View} {ch i : ℕ} {q : Queue} → Holds p → view_of p ≡ v → (i ≡ ch) × (ch < channels v) → q ≡ slice_index_or p.queues i q
     → HoldsAt p i q
@@ -102,23 +76,15 @@ queue_back queues i {q} same read = ap (slice_set queues i) (same ∙ read) ∙ 
 
 -- how many instructions its machine has executed, if a program is loaded
 pub taken_some : (m : ChannelValue) → is_some m.program ≡ true → taken_of m ≡ Some m.taken
-taken_some m h = by m.program h where
-  by : (o : Option ProgramValue) → is_some o ≡ true → option_map (λ _. m.taken) o ≡ Some m.taken
-  by None e = absurd cc
-  by (Some p) e = refl
+taken_some m h = grind arith
 
 pub taken_none : (m : ChannelValue) → is_some m.program ≡ false → taken_of m ≡ None
-taken_none m h = by m.program h where
-  by : (o : Option ProgramValue) → is_some o ≡ false → option_map (λ _. m.taken) o ≡ None
-  by None e = refl
-  by (Some p) e = absurd cc
+taken_none m h = grind arith
 
 -- what runs on its channel
 pub runs_at : {p : Parts} {ch : ℕ} {q : Queue} → HoldsAt p ch q → (t : Descriptor) → is_some q.channel.program ≡ true → front (state_in p ch) ≡ Some t
     → runs_in p ch ≡ Some (record { ch = ch; cookie = finished (state_in p ch) + 1; transfer = t; taken = q.channel.taken })
-runs_at {p} {ch} {q} at t loaded is =
-    let c = state_in p ch in
-    at.runs_is ∙ ap (running_in ch c) (taken_some q.channel loaded) ∙ runs_front ch c t q.channel.taken is
+runs_at {p} {ch} {q} at t loaded is = grind (arith, taken_some, runs_front)
 
 pub runs_none : {p : Parts} {ch : ℕ} {q : Queue} → HoldsAt p ch q → is_some q.channel.program ≡ false → None ≡ runs_in p ch
 runs_none {p} {ch} {q} at unloaded = sym (at.runs_is ∙ ap (running_in ch (state_in p ch)) (taken_none q.channel unloaded))

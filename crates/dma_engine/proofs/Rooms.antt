@@ -1,23 +1,17 @@
--- The room that is allocated before it is needed, transfers found in a history, and which steps end.
-use Rattle.std.proofs.Common.{◌≡◌, ◌≢◌, ℕ, ◌+◌, ◌-◌, ◌<◌, ◌≤◌, List, [], ◌∷◌, ◌++◌, length, map, take, drop, Option, Some, Bool, true, false, refl, ap, sym}
-use Rattle.std.proofs.Common.{◌∙◌, subst, arith, suc, inl, inr}
-use Rattle.std.specs.Prelude.{slice_get, slice_index, slice_index_or, slice_set, is_some, nat_lt, unwrap_or, if◌then◌else◌}
-use Rattle.std.proofs.lemmas.Bool.{cases_eq, cases_lt, le-ltb, lt-ltb, cond_both}
+-- The room that is allocated before it is needed, and transfers found in a history.
+use Rattle.std.proofs.Common.{◌≡◌, ℕ, ◌+◌, ◌-◌, ◌<◌, ◌≤◌, List, [], ◌∷◌, ◌++◌, length, map, take, drop, Option, Some, true, false, refl, ap, sym}
+use Rattle.std.proofs.Common.{◌∙◌, arith, suc, inl, inr}
+use Rattle.std.specs.Prelude.{slice_get, slice_index, slice_index_or, slice_set, nat_lt, unwrap_or}
+use Rattle.std.proofs.lemmas.Bool.{cases_eq, cases_lt, le-ltb, lt-ltb}
 use Rattle.std.proofs.lemmas.Option.{slice_get-get_or}
 use Rattle.std.proofs.lemmas.List.{get_or-drop, get_or-map, get_or-append-add, get_or_append_left, map-set, get_or-set_same, get_or-set_other, length-drop}
 use Rattle.std.proofs.lemmas.List.{length-map, take-append-drop}
-use Rattle.dma_insn.specs.declared.chip.ChipInsn.{ChipInsn}
-use Rattle.dma_insn.specs.declared.chip.ChipInsn.TheVariants.{Ld, St, End, Wfe}
-use Rattle.dma_mem.specs.{Places.Descriptor, declared.marks.MarkKind.TheVariants.Reading, declared.marks.MarkKind.TheVariants.Writing, Marking.meets_mark}
-use Rattle.dma_chan.specs.declared.turn.ChanTurn.TheVariants.{Moved, Waiting, Fault}
-use Rattle.dma_chan.specs.{Exec.fault_in, Layer.Shared, Layer.effect_of, Traffic.read_places, Traffic.written_places, declared.turn.ChanTurn.ChanTurn}
-use Rattle.dma_chan.specs.{declared.turn.FaultKind.FaultKind, declared.turn.FaultKind.TheVariants.DataReadErr, declared.turn.FaultKind.TheVariants.DataWriteErr}
+use Rattle.dma_mem.specs.{Places.Descriptor}
 use Rattle.dma_engine.specs.inner.Found.{given_by, transfer_at, transfer_in, transfer_of, transfers_in, unfinished_in}
-use Rattle.dma_engine.specs.Object.{Object, ChannelState, channel, no_transfer, unfinished, is_set}
-use Rattle.dma_engine.specs.Turn.{Stepped, ends, insn_turn, finishes, next_moved}
-use Rattle.dma_engine.specs.{declared.entry.Entry.Entry, declared.entry.Entry.TheVariants.Submitted, declared.outcome.TransResult.TransResult}
-use Rattle.dma_engine.specs.{declared.outcome.TransResult.TheVariants.ReadFailed, declared.outcome.TransResult.TheVariants.WriteFailed, inner.Holds.object_in}
-use Rattle.dma_engine.specs.{declared.queue.Queue.Queue, inner.Inside.queue_room, Room.no_room, Room.room_on, Room.HasRoom, Room.KeepsRoom, View.View}
+use Rattle.dma_engine.specs.Object.{ChannelState, channel, no_transfer}
+use Rattle.dma_engine.specs.{declared.entry.Entry.Entry, declared.entry.Entry.TheVariants.Submitted}
+use Rattle.dma_engine.specs.{inner.Holds.object_in}
+use Rattle.dma_engine.specs.{declared.queue.Queue.Queue, inner.Inside.queue_room, Room.no_room, Room.KeepsRoom}
 use Rattle.dma_engine.specs.{View.EngineState, View.object_of, inner.Holds.Holds, inner.Holds.IsQueue, inner.Holds.Parts, inner.Holds.view_of}
 use Rattle.dma_engine.proofs.{Changes.changed, Changes.schedule_kept, Changes.view_changed, QueueCalls.holds_paused, Queues.HoldsAt}
 use Rattle.dma_engine.specs.inner.Holds.{state_in}
@@ -44,28 +38,14 @@ room_at queues ch q less read = get_or-map queue_room queues ch q no_room less �
 
 pub room_set : (queues : List Queue) (ch : ℕ) (q : Queue) → ch < length queues
     → slice_index_or (map queue_room (slice_set queues ch q)) ch no_room ≡ queue_room q
-room_set queues ch q less =
-    ap (λ l. slice_index_or l ch no_room) (map-set queue_room queues ch q)
-    ∙ get_or-set_same (map queue_room queues) ch (queue_room q) no_room (omega (arith, less, length-map queues queue_room))
+room_set queues ch q less = grind (arith, map-set, get_or-set_same, length-map)
 
 -- every channel's room is kept when one queue is replaced by one with no less room
 pub keeps_room : {p : Parts} {ch : ℕ} {q : Queue} → HoldsAt p ch q → (r : Queue) (entries : ℕ) (e f : EngineState)
     → record { view = view_of p; memory = p.memory; room = record { entries = entries; queues = map queue_room p.queues } } ≡ e
     → object_of f.view ≡ object_in p → entries ≤ f.room.entries → f.room.queues ≡ map queue_room (slice_set p.queues ch r)
     → q.indices.spare ≤ r.indices.spare → q.outcomes.spare ≤ r.outcomes.spare → KeepsRoom e f
-keeps_room {p} {ch} {q} at r entries e f is object more queues indices outcomes d h =
-    let h' = subst (λ (s : EngineState). HasRoom s d) (sym is) h in
-    let grow : ((slice_index_or (map queue_room p.queues) d no_room).indices ≤ (room_on f.room d).indices)
-    × ((slice_index_or (map queue_room p.queues) d no_room).outcomes ≤ (room_on f.room d).outcomes) = elim (cases_eq d ch) [
-      | inl same ↦ rw (queues, same, room_at p.queues ch q at.less at.read, room_set p.queues ch r at.less) (indices, outcomes)
-      | inr other ↦ rw (queues, map-set queue_room p.queues ch r, get_or-set_other (map queue_room p.queues) ch d (queue_room r) no_room other)
-          (omega arith, omega arith)
-    ] in
-    record {
-      entry = omega (arith, more, h'.entry);
-      cookie = omega (arith, grow.0, h'.cookie);
-      outcomes = subst (λ (o : Object). unfinished (channel o d) ≤ (room_on f.room d).outcomes) (sym object) (omega (arith, grow.1, h'.outcomes));
-    }
+keeps_room {p} {ch} {q} at r entries e f is object more queues indices outcomes d h = grind (arith, cases_eq, room_at, room_set, map-set, get_or-set_other)
 
 -- ---- transfers that are found by their indices
 
@@ -112,32 +92,9 @@ transfer_at_all kept history indices n less = elim (cases_lt n (length kept)) [
       let k = n - length kept in
       let at : length kept + k ≡ n = omega (arith, late) in
       let inside : k < length indices = omega (arith, less, late) in
-      let right : slice_index_or (transfers_in kept history indices) n no_transfer ≡ transfer_in history (slice_index indices k) =
-      ap (λ i. slice_index_or (transfers_in kept history indices) i no_transfer) (sym at)
-      ∙ get_or-append-add kept (map (transfer_in history) indices) k no_transfer
-      ∙ get_or-map (transfer_in history) indices k 0 no_transfer inside in
+      let right : slice_index_or (transfers_in kept history indices) n no_transfer ≡ transfer_in history (slice_index indices k) = grind (arith, get_or-append-add, get_or-map) in
       rw e (given-is (slice_get history (slice_index indices k)) ∙ sym right)
 ] where
   given-is : (o : Option Entry) → unwrap_or (given_by o) no_transfer ≡ transfer_of o
   given-is (Some (Submitted ch t cookie)) = refl
   given-is o = refl
-
--- ---- which steps end
-
-by_mark_law : (b : Bool) (v : View) (ch n : ℕ) (t : Descriptor) (how : TransResult) (kind : FaultKind) (m w : Shared)
-    → ends (if◌then◌else◌ {A = Stepped} b (finishes v ch t n how) (next_moved v ch n)).0 ≡ is_some
-    (fault_in (if◌then◌else◌ {A = ChanTurn × Shared} b (Fault kind, m) (Moved, w)).0)
-by_mark_law true v ch n t how kind m w = refl
-by_mark_law false v ch n t how kind m w = refl
-
--- an instruction that isn't the end finishes the front where the channel fails at it
-pub ends_insn : (v : View) (ch n : ℕ) (t : Descriptor) (m : Shared) (i : ChipInsn) → i ≢ End
-    → ends (insn_turn v ch t n i).0 ≡ is_some (fault_in (effect_of i (read_places t n) (written_places t n) (object_of v).marks m).0)
-ends_insn v ch n t m End h = absurd (h refl)
-ends_insn v ch n t m Ld h = by_mark_law (meets_mark Reading (object_of v).marks (read_places t n)) v ch n t ReadFailed DataReadErr m m
-ends_insn v ch n t m St h = by_mark_law (meets_mark Writing (object_of v).marks (written_places t n)) v ch n t WriteFailed DataWriteErr m _
-ends_insn v ch n t m (Wfe e x) h =
-    cond_both {A = Stepped} (is_set (object_of v) e) _ _ (λ (s : Stepped). ends s.0 ≡ false) (λ _. refl) (λ _. refl)
-    ∙ sym (cond_both {A = ChanTurn × Shared} (slice_index_or m.flags e false) (Moved, _) (Waiting e, m)
-    (λ (s : ChanTurn × Shared). is_some (fault_in s.0) ≡ false) (λ _. refl) (λ _. refl))
-ends_insn v ch n t m i h = refl

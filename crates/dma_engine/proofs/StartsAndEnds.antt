@@ -1,18 +1,17 @@
 -- What an engine keeps and answers when a front starts, finishes or is terminated.
-use Rattle.std.proofs.Common.{◌≡◌, ◌≢◌, ℕ, ◌+◌, ◌-◌, ◌<◌, ◌≤◌, List, [], ◌∷◌, ◌++◌, length, Option, Some, None, Bool, true, false, ◌||◌, refl, ap, sym, ◌∙◌}
+use Rattle.std.proofs.Common.{◌≡◌, ◌≢◌, ℕ, ◌+◌, ◌-◌, ◌<◌, ◌≤◌, List, [], ◌∷◌, ◌++◌, length, Option, Some, None, Bool, true, false, refl, ap, sym, ◌∙◌}
 use Rattle.std.proofs.Common.{subst, arith, Ok, map, take, drop, inl, inr, zero, suc, add-one}
-use Rattle.std.specs.Prelude.{slice_index_or, slice_set, is_some, nat_lt, ◌==◌, unwrap_or, IsSomeAnd, if◌then◌else◌, Ok}
-use Rattle.std.specs.Option.{option_map}
+use Rattle.std.specs.Prelude.{slice_index_or, slice_set, is_some, ◌==◌, unwrap_or, IsSomeAnd, if◌then◌else◌, Ok}
 use Rattle.std.proofs.{lemmas.Bool.ne_eqb, lemmas.Bool.cases_eq, lemmas.Bool.eq-eqb, lemmas.Option.some_pair_parts, lemmas.List.length-drop}
 use Rattle.std.proofs.{lemmas.List.get_or-drop, lemmas.List.map_more, lemmas.List.Elements.All-append}
 use Rattle.dma_engine.specs.Object.{ChannelState, channel, front, issued_front, finished, unfinished, Object, after, front_of, no_transfer, with_outcome}
 use Rattle.dma_engine.specs.Object.{with_all_aborted, outcome_of, aborted, is_failure, with_channel, with_front_laid}
-use Rattle.dma_engine.specs.View.{View, ChannelSchedule, RunningTransfer, IsSound, runs, running_in, object_of, size, channels, memory_shown, schedule_at}
-use Rattle.dma_engine.specs.Turn.{front_cookie, first_conflicting, start_turn, with_entry, with_step, with_taken, turn, Stepped}
-use Rattle.dma_engine.specs.Answer.{CallAnswers, is_started, done_on, terminated}
+use Rattle.dma_engine.specs.View.{View, ChannelSchedule, RunningTransfer, IsSound, runs, running_in, size, channels, memory_shown, schedule_at}
+use Rattle.dma_engine.specs.Turn.{front_cookie, first_conflicting, start_turn, with_entry, with_step, with_taken, turn}
+use Rattle.dma_engine.specs.Answer.{CallAnswers, done_on, terminated}
 use Rattle.dma_engine.specs.inner.Due.{MayStart, Finishes, IsDue, front_with_cookie}
 use Rattle.dma_engine.specs.inner.Holds.{Holds, IsPrepared, Parts, view_of, schedule_of, queue_finished, queue_started, queue_terminated, IsQueue, object_in}
-use Rattle.dma_engine.specs.{inner.Found.front_in, inner.Found.known_with, declared.entry.Entry.Entry, declared.call.Reply.Reply, View.state_at}
+use Rattle.dma_engine.specs.{inner.Found.front_in, inner.Found.known_with, declared.entry.Entry.Entry, View.state_at}
 use Rattle.dma_engine.specs.{declared.call.Reply.TheVariants.Turned, declared.call.Reply.TheVariants.Refused, declared.entry.Entry.TheVariants.Finished}
 use Rattle.dma_engine.specs.{declared.entry.Entry.TheVariants.Terminated, declared.outcome.Outcome.Outcome, declared.outcome.TransResult.TransResult}
 use Rattle.dma_engine.specs.{declared.fault.EngineFault.TheVariants.NoMemory, declared.queue.Queue.Queue, inner.Accesses.named, declared.access.Ranges.Ranges}
@@ -24,9 +23,9 @@ use Rattle.dma_chan.proofs.{LayerLaws.starts_at, ShapeLaws.stored_is, CopyAlone.
 use Rattle.dma_engine.proofs.Changes.{changed, holds_changed, leads_still, runs_here_law, runs_other, view_changed, leads_on, submitted_kept}
 use Rattle.dma_engine.proofs.Queues.{HoldsAt, front_issued, holds_at, many_queues, runs_front, front_known, runs_none, slice_get_push}
 use Rattle.dma_engine.proofs.StepCases.{start_turn_law, stepped_so, Due, due_there, finish_turn, step_starved}
-use Rattle.dma_engine.proofs.{CallCases.named_by, Conflicts.few_issued, Conflicts.front_found, ConflictsByRanges.below_more_law, Memory.shown_started}
+use Rattle.dma_engine.proofs.{Conflicts.few_issued, Conflicts.front_found, ConflictsByRanges.below_more_law, Memory.shown_started}
 use Rattle.dma_engine.proofs.{Memory.shown_ended, Sizes.size_small, StaysSound.stepped_sound, StaysSound.terminate_sound, TransferRules.IsGood}
-use Rattle.dma_engine.proofs.{TransferRules.good_front, TransferRules.free_others, QueueCalls.shown_both, WhatRuns.running_same, WhatRuns.below, WhatRuns.above}
+use Rattle.dma_engine.proofs.{TransferRules.good_front, TransferRules.free_others, Memory.shown_both, WhatRuns.running_same, WhatRuns.below, WhatRuns.above}
 use Rattle.dma_engine.proofs.{Fronts.Runs, Fronts.done_by, Fronts.running}
 use Rattle.dma_engine.specs.declared.turn.Turn.TheVariants.{Held, Started, Finished as TurnFinished}
 use Rattle.dma_engine.specs.declared.turn.Turn.{Turn}
@@ -35,10 +34,7 @@ use Rattle.dma_engine.specs.declared.turn.Turn.{Turn}
 
 -- the front and its cookie, from the pair that was found
 pub front_with_cookie_law : (c : ChannelState) {u : Descriptor} {k : ℕ} → Some (u, k) ≡ front_with_cookie c → (issued_front c ≡ Some u) × (k ≡ finished c + 1)
-front_with_cookie_law c {u} {k} h = by (issued_front c) h where
-  by : (o : Option Descriptor) → Some (u, k) ≡ option_map {U = Descriptor × ℕ} (λ t. (t, finished c + 1)) o → (o ≡ Some u) × (k ≡ finished c + 1)
-  by None e = absurd cc
-  by (Some t) e = let same = some_pair_parts u t k (finished c + 1) e in (ap (λ x. Some x) (sym same.0), same.1)
+front_with_cookie_law c {u} {k} h = grind (arith, some_pair_parts)
 
 -- a queue whose front has started, with the ranges that it keeps
 pub record IsStarted (q r : Queue) (t : Descriptor) : Type 0 where
@@ -47,27 +43,16 @@ pub record IsStarted (q r : Queue) (t : Descriptor) : Type 0 where
   pub is : r ≡ queue_started q t ranges
 
 pub now_started : (q r : Queue) (t : Descriptor) → IsSomeAnd r.ranges (λ ranges. HasRangesOf ranges t × (r ≡ queue_started q t ranges)) → IsStarted q r t
-now_started q r t h = by r.ranges h where
-  by : (o : Option Ranges) → IsSomeAnd o (λ ranges. HasRangesOf ranges t × (r ≡ queue_started q t ranges)) → IsStarted q r t
-  by None g = absurd g
-  by (Some ranges) g = record { ranges = ranges; has = g.0; is = g.1 }
+now_started q r t h = grind arith
 
 -- it keeps these ranges
 pub started_with : (q : Queue) (t : Descriptor) (x : Option Ranges) → IsSomeAnd x (λ ranges. HasRangesOf ranges t)
     → IsSomeAnd x (λ ranges. HasRangesOf ranges t × (record q { channel = loaded (compiled t); ranges = x } ≡ queue_started q t ranges))
-started_with q t None h = h
-started_with q t (Some ranges) h = (h, refl)
+started_with q t x h = grind (arith)
 
 -- a queue on which nothing runs keeps no ranges
 pub idle_ranges : {p : Parts} {ch : ℕ} {q : Queue} → HoldsAt p ch q → (schedule_at (view_of p) ch).taken ≡ None → q.ranges ≡ None
-idle_ranges {p} {ch} {q} at idle =
-    let v : View = view_of p in
-    let there : (schedule_of q).taken ≡ None = sym (ap (λ (y : ChannelSchedule). y.taken) at.schedule_is) ∙ idle in
-    let none : runs (object_of v) v.schedule ch ≡ None = at.runs_is ∙ ap (running_in ch (state_at v ch)) there in
-    by q.ranges (subst (AreOfRunning q.ranges) none at.ranges) where
-      by : (x : Option Ranges) → AreOfRunning x None → x ≡ None
-      by None h = refl
-      by (Some r) h = absurd h
+idle_ranges {p} {ch} {q} at idle = grind arith
 
 -- The front of the channel is t, and it is found among the transfers of the base and of the history.
 pub record FrontFound (p : Parts) (ch : ℕ) (q : Queue) (kept : List Descriptor) (history : List Entry) (t : Descriptor) : Type 0 where
@@ -103,15 +88,11 @@ start_is v ch t may some none = start_turn_law v ch t may some ∙ ap (start_tur
 -- a start that is out of memory
 pub start_starved : (v w : View) (ch : ℕ) (t : Descriptor) → MayStart v ch → issued_front (state_at v ch) ≡ Some t → first_conflicting v t ≡ None
     → w ≡ v → CallAnswers v (Step ch) (Refused NoMemory) w
-start_starved v w ch t may some none same =
-    let is = stepped_so v _ ch (Started (front_cookie v ch)) (start_is v ch t may some none) in
-    (sym (ap (λ (x : Reply × View). is_started x.0 || nat_lt (length v.history) (length x.1.history)) is), same)
+start_starved v w ch t may some none same = grind (arith, stepped_so, start_is)
 
 pub held_is : (v : View) (ch other cookie : ℕ) (t : Descriptor) → MayStart v ch → issued_front (state_at v ch) ≡ Some t
     → Some (other, cookie) ≡ named (first_conflicting v t) → turn v ch ≡ (Ok (Held other cookie), v)
-held_is v ch other cookie t may some held =
-    named_by (first_conflicting v t) other cookie (λ x c k. first_conflicting v t ≡ x → turn v ch ≡ (Ok (Held c k), v))
-    (λ r is. start_turn_law v ch t may some ∙ ap (start_turn v ch) is) held refl
+held_is v ch other cookie t may some held = grind (arith, start_turn_law)
 
 -- the front, if it is known
 pub front_is_law : (c : ChannelState) (t : Descriptor) → front c ≡ Some t → front_of c ≡ t
@@ -170,9 +151,7 @@ module _ {p : Parts} {ch : ℕ} {q : Queue} (at : HoldsAt p ch q) where
   pub start_answers : (cookie : ℕ) (t : Descriptor) (u : Ranges) → MayStart v ch → issued_front c ≡ Some t → first_conflicting v t ≡ None
       → cookie ≡ front_cookie v ch
       → CallAnswers v (Step ch) (Turned (Started cookie)) (view_of (changed p ch (queue_started q t u) p.memory p.events p.history p.steps))
-  start_answers cookie t u may some none number =
-      ap (λ w. (Turned (Started cookie), w)) (view_started t u) ∙ ap (λ k. (Turned (Started k), with_taken v ch (Some 0))) number
-      ∙ stepped_so v _ ch (Started (front_cookie v ch)) (start_is v ch t may some none)
+  start_answers cookie t u may some none number = grind (arith, view_started, stepped_so, start_is)
 
   -- ---- a queue whose front, or all of whose cookies, have finished
 
@@ -259,9 +238,7 @@ module _ {p : Parts} {ch : ℕ} {q : Queue} (at : HoldsAt p ch q) where
 -- the residue of the front, from that of the transfer that was found
 pub finish_left : (c : ChannelState) {u : Descriptor} {len stored done : ℕ} → issued_front c ≡ Some u → len ≡ size_of u → stored ≡ done
     → len - stored ≡ size_of (front_of c) - done
-finish_left c {u} some size is =
-    let front = front_is_law c u (front_issued c u some) in
-    rw (size, is, front) refl
+finish_left c {u} some size is = grind (arith, front_is_law, front_issued)
 
 module _ {p : Parts} {ch : ℕ} {q : Queue} (how : TransResult) (d : Due p ch q (Finishes (view_of p) how)) where
   abbrev now : View
@@ -278,12 +255,7 @@ module _ {p : Parts} {ch : ℕ} {q : Queue} (how : TransResult) (d : Due p ch q 
 
   -- the turn of a step that finishes the front, in terms of the bytes that are stored
   pub finish_is : turn now ch ≡ (Ok answer, with_step (with_taken (with_entry now (Finished ch how done)) ch None))
-  finish_is =
-      let t = d.it.transfer in
-      let by : Descriptor → ℕ → Stepped =
-      λ u k. (Ok (TurnFinished (front_cookie now ch) how (size_of u - k)), with_step (with_taken (with_entry now (Finished ch how k)) ch None)) in
-      d.turn_is ∙ finish_turn now ch q.channel.taken t how d.holds ∙ ap (by t) (sym (ap done_by d.it.runs_is))
-      ∙ ap (λ u. by u done) (sym (front_is_law state t d.it.is))
+  finish_is = grind (arith, finish_turn, front_is_law)
 
   pub holds_finished : (spare : ℕ) → Holds (changed p ch (queue_finished q spare (outcome_of how (front_of state) done) (is_failure how)) p.memory p.events
       (p.history ++ Finished ch how done ∷ []) (p.steps + 1))
@@ -303,8 +275,7 @@ module _ {p : Parts} {ch : ℕ} {q : Queue} (how : TransResult) (d : Due p ch q 
 
   pub finish_answers : (spare : ℕ) (outcome : Outcome) (halted : Bool) → CallAnswers now (Step ch) (Turned answer)
       (view_of (changed p ch (queue_finished q spare outcome halted) p.memory p.events (p.history ++ Finished ch how done ∷ []) (p.steps + 1)))
-  finish_answers spare outcome halted =
-      ap (λ w. (Turned answer, w)) (view_finished d.it.at spare outcome halted (Finished ch how done)) ∙ stepped_so now _ ch answer finish_is
+  finish_answers spare outcome halted = grind (arith, view_finished, stepped_so, finish_is)
 
 -- a finish that is out of memory
 pub finish_starved : (p : Parts) → Holds p → (ch : ℕ) (how : TransResult) → IsDue (view_of p) ch (Finishes (view_of p) how)
@@ -331,8 +302,7 @@ aborted_more done (t ∷ ts) (suc k) h =
     rw (add-one, e) (ap (λ l. outcome_of Aborted t done ∷ l) more)
 
 same_test : (k n first : ℕ) → first + k ≡ n → (k == 0) ≡ (n == first)
-same_test zero n first e = sym (eq-eqb n first (omega arith))
-same_test (suc k) n first e = ne_eqb (suc k) 0 (λ z. omega arith) ∙ sym (ne_eqb n first (λ f. omega arith))
+same_test k n first h = grind (arith, eq-eqb, ne_eqb)
 
 pub aborted_step : (done : ℕ) (ts : List Descriptor) (first n stored residue : ℕ) (u : Descriptor) (list : List Outcome) → first ≤ n → n < length ts
     → list ≡ aborted done (take (n - first) (drop first ts)) → u ≡ slice_index_or ts n no_transfer → stored ≡ (if n == first then done else 0)

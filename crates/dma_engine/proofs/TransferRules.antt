@@ -1,5 +1,5 @@
 -- Facts of each submitted transfer, and of a running one.
-use Rattle.std.proofs.Common.{◌≡◌, ◌≢◌, ℕ, ◌+◌, ◌-◌, ◌<◌, List, [], ◌∷◌, ◌++◌, length, Option, Some, None, true, false, refl, ap, ◌∙◌, subst, arith, inl, inr}
+use Rattle.std.proofs.Common.{◌≡◌, ◌≢◌, ℕ, ◌+◌, ◌-◌, ◌<◌, List, [], ◌∷◌, ◌++◌, length, Option, Some, true, false, refl, ap, ◌∙◌, subst, arith, inl, inr}
 use Rattle.std.proofs.Common.{◌⊎◌, zero, suc}
 use Rattle.std.specs.{Prelude.slice_get, Prelude.IfSome, List.All}
 use Rattle.std.proofs.{lemmas.List.Elements.All-nil, lemmas.List.Elements.All-push, lemmas.Option.slice_get_within, lemmas.Option.get_or_from_slice_get}
@@ -86,8 +86,7 @@ good_front p h ch t is = ruled_front (view_of p) ch t h.sound is
 -- ---- what else runs is free of it
 
 free_at : (x : Option RunningTransfer) (r : RunningTransfer) → AreFree (Some r) x → IfSome x (λ s. IsFree r.transfer s.transfer)
-free_at None r h = tt
-free_at (Some s) r h = is_free_of_true r.transfer s.transfer h
+free_at x r h = grind (arith, is_free_of_true)
 
 pub free_others : (o : Object) (s : List ChannelSchedule) (ch : ℕ) (r : RunningTransfer) → Fits o s → ch < length o.channels → runs o s ch ≡ Some r
     → All (λ x. IsFree r.transfer x.transfer) (below o s ch) × All (λ x. IsFree r.transfer x.transfer) (above o s ch)

@@ -22,9 +22,7 @@ pub All_filter_map : {X : Type 0} (P : X → Type 0) (f : ℕ → Option X) (a n
 All_filter_map P f a zero h = All-nil P
 All_filter_map {X} P f a (suc n) h =
     let rest : All P (filter_map f (range_with_len (a + 1) n)) = All_filter_map P f (a + 1) n (λ c l m. h c (omega arith) (omega arith)) in
-    let by : (o : Option X) → IfSome o P → All P (cons_option o (filter_map f (range_with_len (a + 1) n))) =
-    λ o. elim o as (λ o. IfSome o P → All P (cons_option o (filter_map f (range_with_len (a + 1) n))))
-    [ None ↦ λ _. rest | Some x ↦ λ p. All-cons P x _ p rest ] in
+    let by : (o : Option X) → IfSome o P → All P (cons_option o (filter_map f (range_with_len (a + 1) n))) = grind (arith, All-cons) in
     by (f a) (h a (omega arith) (omega arith))
 
 pub filter_map_same : {X : Type 0} (f g : ℕ → Option X) (a n : ℕ) → ((c : ℕ) → a ≤ c → c < a + n → f c ≡ g c)
@@ -61,8 +59,7 @@ running_split o schedule ch h =
     let n = length o.channels - ch - 1 in
     let all : length o.channels ≡ ch + suc n = omega arith in
     let first : 0 + ch ≡ ch = omega arith in
-    let by : (o : Option RunningTransfer) (l : List RunningTransfer) → cons_option o l ≡ option_to_list o ++ l =
-    λ o l. elim o as (λ o. cons_option o l ≡ option_to_list o ++ l) [ None ↦ refl | Some x ↦ refl ] in
+    let by : (o : Option RunningTransfer) (l : List RunningTransfer) → cons_option o l ≡ option_to_list o ++ l = grind (arith) in
     ap (filter_map f) (ap (range_with_len 0) all ∙ range_with_len_add 0 ch (suc n))
     ∙ filter_map-append f (range_with_len 0 ch) (range_with_len (0 + ch) (suc n))
     ∙ ap (λ k. below o schedule ch ++ filter_map f (range_with_len k (suc n))) first
@@ -74,8 +71,7 @@ below_same o p s t ch h = filter_map_same (runs o s) (runs p t) 0 ch (λ c l m. 
 
 pub above_same : (o p : Object) (s t : List ChannelSchedule) (ch : ℕ) → length o.channels ≡ length p.channels → ((c : ℕ) → c ≢ ch → runs o s c ≡ runs p t c)
     → above o s ch ≡ above p t ch
-above_same o p s t ch e h = filter_map_same (runs o s) (runs p t) (ch + 1) _ (λ c l m. h c (omega arith))
-    ∙ ap (λ n. filter_map (runs p t) (range_with_len (ch + 1) (n - ch - 1))) e
+above_same o p s t ch e h = grind (arith, filter_map_same)
 
 -- ---- the first that passes a test
 
@@ -89,19 +85,12 @@ find_here p o s ch r h none here passes =
     ∙ ap (λ b. cond b (Some r) (find p (above o s ch))) passes
 
 pub below_more_law : (o : Object) (s : List ChannelSchedule) (ch : ℕ) → below o s (ch + 1) ≡ below o s ch ++ option_to_list (runs o s ch)
-below_more_law o s ch =
-    let f = runs o s in
-    let by : (x : Option RunningTransfer) → cons_option x [] ≡ option_to_list x =
-    λ x. elim x as (λ x. cons_option x [] ≡ option_to_list x) [ None ↦ refl | Some y ↦ refl ] in
-    ap (filter_map f) (range_with_len_add 0 ch 1) ∙ filter_map-append f (range_with_len 0 ch) (range_with_len (0 + ch) 1)
-    ∙ ap (λ l. below o s ch ++ l) (by (f (0 + ch))) ∙ ap (λ n. below o s ch ++ option_to_list (f n)) (zero-add ch)
+below_more_law o s ch = grind (arith, range_with_len_add, filter_map-append, zero-add)
 
 -- nothing that runs up to a channel passes the test
 pub find_none_more : (p : RunningTransfer → Bool) (o : Object) (s : List ChannelSchedule) (ch : ℕ) → find p (below o s ch) ≡ None
     → find p (option_to_list (runs o s ch)) ≡ None → find p (below o s (ch + 1)) ≡ None
-find_none_more p o s ch none here =
-    ap (find p) (below_more_law o s ch) ∙ find-append p (below o s ch) (option_to_list (runs o s ch))
-    ∙ ap (λ x. option_or x (find p (option_to_list (runs o s ch)))) none ∙ here
+find_none_more p o s ch none here = grind (arith, below_more_law, find-append)
 
 -- nothing that runs on any channel passes it
 pub find_all : (p : RunningTransfer → Bool) (o : Object) (s : List ChannelSchedule) (n : ℕ) → length o.channels ≡ n → find p (below o s n) ≡ None
@@ -114,8 +103,7 @@ pub find_none_at : (p : RunningTransfer → Bool) (o : Object) (s : List Channel
     → find p (running o s) ≡ None → runs o s ch ≡ Some r → p r ≡ false
 find_none_at p o s ch r h none here =
     let rest = option_to_list (runs o s ch) ++ above o s ch in
-    let front : (x y : Option RunningTransfer) → option_or x y ≡ None → x ≡ None =
-    λ x y. elim x as (λ x. option_or x y ≡ None → x ≡ None) [ None ↦ λ _. refl | Some z ↦ λ e. absurd cc ] in
+    let front : (x y : Option RunningTransfer) → option_or x y ≡ None → x ≡ None = grind (arith) in
     let before : find p (below o s ch) ≡ None = front _ (find p rest) (sym (ap (find p) (running_split o s ch h) ∙ find-append p (below o s ch) rest) ∙ none) in
     false_from_ne_true (p r) (λ e. let found = find_here p o s ch r h before here e in cc)
 
@@ -128,22 +116,11 @@ running_same o p s t e h = rw (← e) (filter_map_same (runs p t) (runs o s) 0 (
 -- one more where something runs on the next channel
 pub one_more_runs : (o : Object) (schedule : List ChannelSchedule) (ch : ℕ)
     → length (below o schedule (ch + 1)) ≡ length (below o schedule ch) + bool_byte (is_some (runs o schedule ch))
-one_more_runs o schedule ch =
-    let f = runs o schedule in
-    let first : 0 + ch ≡ ch = omega arith in
-    let by : (x : Option RunningTransfer) → length (cons_option x []) ≡ bool_byte (is_some x) =
-    λ x. elim x as (λ x. length (cons_option x []) ≡ bool_byte (is_some x)) [ None ↦ refl | Some t ↦ refl ] in
-    ap (λ l. length (filter_map f l)) (range_with_len_add 0 ch 1)
-    ∙ ap length (filter_map-append f (range_with_len 0 ch) (range_with_len (0 + ch) 1))
-    ∙ length-append (below o schedule ch) (filter_map f (range_with_len (0 + ch) 1))
-    ∙ ap (λ k. length (below o schedule ch) + length (cons_option (f k) [])) first
-    ∙ ap (λ n. length (below o schedule ch) + n) (by (f ch))
+one_more_runs o schedule ch = grind (arith, range_with_len_add, filter_map-append, length-append)
 
 -- whether something runs there, by what is known of it
 pub runs_known : {X : Type 0} (f : RunningTransfer → X) (x : Option RunningTransfer) → is_some (option_map f x) ≡ is_some x
-runs_known f None = refl
-runs_known f (Some r) = refl
+runs_known f x = grind (arith)
 
 pub few_byte : (b : Bool) → bool_byte b ≤ 1
-few_byte true = omega arith
-few_byte false = omega arith
+few_byte b = grind (arith)

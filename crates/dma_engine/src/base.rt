@@ -14,13 +14,13 @@ use std::marker::Model;
 #[derive(Drop)]
 pub struct BaseChannel {
     // how many cookies are finished
-    forgotten: u32,
+    pub(crate) forgotten: u32,
     // how many cookies are issued
-    issued: u32,
+    pub(crate) issued: u32,
     // whether a failure has halted the channel
-    halted: bool,
+    pub(crate) halted: bool,
     // the unfinished transfers, in the order of their cookies
-    unfinished: Vec<Transfer>,
+    pub(crate) unfinished: Vec<Transfer>,
 }
 
 impl Model for BaseChannel {
@@ -40,50 +40,15 @@ impl Model for BaseChannel {
     } };
 }
 
-impl BaseChannel {
-    /// Returns a channel with this number of finished cookies and of issued cookies, and with these unfinished
-    /// transfers.
-    pub fn of(forgotten: u32, issued: u32, halted: bool, unfinished: Vec<Transfer>) -> BaseChannel
-        ensures { result ≡ record {
-          forgotten = forgotten;
-          submitted = unfinished.items;
-          issued = issued;
-          outcomes = [];
-          passed = false;
-          signalled = false;
-          halted = halted;
-        } }
-    {
-        BaseChannel {
-            forgotten,
-            issued,
-            halted,
-            unfinished,
-        }
-    }
-
-    /// Returns a channel to which nothing was submitted. It allocates no memory.
-    pub fn new(alloc: Global) -> BaseChannel
-        ensures { result ≡ empty_channel }
-    {
-        BaseChannel {
-            forgotten: 0,
-            issued: 0,
-            halted: false,
-            unfinished: Vec::new(alloc),
-        }
-    }
-}
-
 /// The object from which a history begins. Without a stored image, its image is all zeros, so that an engine without a
 /// checkpoint holds only one memory.
 #[derive(Drop)]
 pub struct Base {
-    size: u32,
-    image: Option<Memory>,
-    events: Events,
-    marks: Marks,
-    channels: Vec<BaseChannel>,
+    pub(crate) size: u32,
+    pub(crate) image: Option<Memory>,
+    pub(crate) events: Events,
+    pub(crate) marks: Marks,
+    pub(crate) channels: Vec<BaseChannel>,
 }
 
 impl Model for Base {
@@ -116,20 +81,6 @@ impl Base {
         })
     }
 
-    /// Returns a base of these parts.
-    pub fn of(image: Memory, events: Events, marks: Marks, channels: Vec<BaseChannel>) -> Base
-        ensures { result ≡ record
-            { image = image.image; events = events; marks = marks; channels = channels.items } }
-    {
-        Base {
-            size: image.size(),
-            image: Some(image),
-            events,
-            marks,
-            channels,
-        }
-    }
-
     /// Returns how many cookies a channel has given, or 0 if there is no such channel.
     pub fn used(&self, index: usize) -> u32
         requires { used (slice_index_or self.now.channels index empty_channel) ≤ u32.MAX }
@@ -156,7 +107,12 @@ fn new_channels(alloc: Global, count: u8) -> Result<Vec<BaseChannel>, AllocError
 {
     let mut channels = Vec::new(alloc);
     for _n in 0..count {
-        channels.push(BaseChannel::new(alloc))?;
+        channels.push(BaseChannel {
+            forgotten: 0,
+            issued: 0,
+            halted: false,
+            unfinished: Vec::new(alloc),
+        })?;
     }
     Ok(channels)
 }

@@ -167,7 +167,7 @@ impl Engine {
         ensures { result ≡ used (channel (object_of self.now.view) ch) }
     {
         match self.queues.get(usize::from(ch)) {
-            Some(queue) => queue.given(),
+            Some(queue) => queue.given,
             None => 0,
         }
     }
@@ -189,7 +189,7 @@ impl Engine {
         ensures base { result ≡ (counts (board_of self.now.view.base) ch).finished }
     {
         match self.queues.get(usize::from(ch)) {
-            Some(queue) => queue.forgotten(),
+            Some(queue) => queue.forgotten,
             None => 0,
         }
     }
@@ -245,10 +245,10 @@ impl Engine {
         ensures { result ≡ result_of (object_of self.now.view) ch cookie }
     {
         let queue = self.queues.get(usize::from(ch))?;
-        if cookie <= queue.forgotten() {
+        if cookie <= queue.forgotten {
             return None;
         }
-        let index = cookie - queue.forgotten() - 1;
+        let index = cookie - queue.forgotten - 1;
         queue.outcomes().get(index as usize).copied()
     }
 

@@ -52,7 +52,13 @@ impl Engine {
         let channels = self.next_channels()?;
         let image = self.memory.try_copy()?;
         let marks = self.marks.try_copy()?;
-        Ok(Base::of(image, self.events.copy(), marks, channels))
+        Ok(Base {
+            size: self.size,
+            image: Some(image),
+            events: self.events.copy(),
+            marks,
+            channels,
+        })
     }
 
     // Returns the next base's state of all channels.
@@ -76,12 +82,12 @@ impl Engine {
     {
         let queue = &self.queues[index];
         let unfinished = self.unfinished_copies(index)?;
-        Ok(BaseChannel::of(
-            queue.finished(),
-            queue.issued(),
-            queue.is_halted(),
+        Ok(BaseChannel {
+            forgotten: queue.finished(),
+            issued: queue.issued,
+            halted: queue.halted,
             unfinished,
-        ))
+        })
     }
 
     // Returns copies of the unfinished transfers of a channel, in the order of their cookies.
@@ -93,7 +99,7 @@ impl Engine {
         let queue = &self.queues[index];
         let first = queue.outcomes().len();
         let mut list = Vec::new(self.alloc);
-        for n in first..(queue.given() - queue.forgotten()) as usize {
+        for n in first..(queue.given - queue.forgotten) as usize {
             list.push(self.transfer(index, n).try_copy()?)?;
         }
         Ok(list)

@@ -1,6 +1,6 @@
 //! The calls of the host on memory, marks and flags.
 
-ghost use Rattle.std.specs.Prelude.{◌≡◌, ◌≢◌, ◌+◌, ◌≤◌, ℕ, IfErr, IfOk, None, OnErr, OnOk, take, drop, length};
+ghost use Rattle.std.specs.Prelude.{◌≡◌, ◌≢◌, ◌+◌, ◌<◌, ◌≤◌, ℕ, IfErr, IfOk, IsOk, None, OnErr, OnOk, take, drop, length};
 ghost use Rattle.dma_engine.specs.Answer.{CallAnswers, bytes_in, done_reply, read_fault, reply_of, write_fault};
 ghost use Rattle.dma_engine.specs.View.{object_of, size};
 ghost use Rattle.dma_engine.specs.Room.{HasMemory, HasRoom, KeepsRoom};
@@ -84,12 +84,9 @@ impl Engine {
             (reply_of (λ bytes. Reply.Bytes bytes) result) self.new.view }
         ensures kept { OnErr result (KeepsRoom self.old self.new) }
     {
-        self.check_read(addr, len)?;
-        let answer = bytes_of(self.alloc, &self.memory, addr, len)?;
+        let answer = self.bytes_read(addr, len)?;
         let kept = Bytes::from_slice(self.alloc, answer.as_slice())?;
-        self.history.reserve(1)?;
-        self.history
-            .push_reserved(Entry::ReadBack { addr, bytes: kept });
+        self.add_read(addr, len, kept)?;
         Ok(answer)
     }
 
@@ -98,11 +95,8 @@ impl Engine {
         ensures answer { CallAnswers self.old.view (Call.Read addr len)
             (reply_of (λ _. Reply.Bytes (bytes_in self.old.view addr len)) result) self.new.view }
     {
-        self.check_read(addr, len)?;
-        let bytes = bytes_of(self.alloc, &self.memory, addr, len)?;
-        self.history.reserve(1)?;
-        self.history.push_reserved(Entry::ReadBack { addr, bytes });
-        Ok(())
+        let bytes = self.bytes_read(addr, len)?;
+        self.add_read(addr, len, bytes)
     }
 
     /// Reads bytes like `read`, into all of `out`. On an error `out` is unchanged.
@@ -115,18 +109,16 @@ impl Engine {
             return Err(EngineFault::OutOfMemoryRange);
         }
         let len = out.len() as u32;
-        self.check_read(addr, len)?;
-        let bytes = bytes_of(self.alloc, &self.memory, addr, len)?;
-        self.history.reserve(1)?;
+        let bytes = self.bytes_read(addr, len)?;
+        self.reserve_entries(1)?;
         out.copy_from_slice(bytes.as_slice());
-        self.history.push_reserved(Entry::ReadBack { addr, bytes });
-        Ok(())
+        self.add_read(addr, len, bytes)
     }
 
-    // Fails if a read is refused for any reason other than memory.
-    fn check_read(&self, addr: u32, len: u32) -> Result<(), EngineFault>
+    // Returns the bytes of a read. Nothing changes.
+    fn bytes_read(&self, addr: u32, len: u32) -> Result<Bytes, EngineFault>
         ensures free { OnOk result (read_fault self.now.view addr len ≡ None) }
-        ensures within { OnOk result (addr + len ≤ size self.now.view) }
+        ensures bytes { IfOk result (λ bytes. bytes ≡ bytes_in self.now.view addr len) }
         ensures err { IfErr result (λ fault. CallAnswers self.now.view (Call.Read addr len)
             (Reply.Refused fault) self.now.view) }
     {
@@ -136,8 +128,22 @@ impl Engine {
         let range = Segment { addr, len };
         match self.first_conflict(&Access::Read(range)) {
             Some((ch, cookie)) => Err(EngineFault::Busy { ch, cookie }),
-            None => Ok(()),
+            None => Ok(bytes_of(self.alloc, &self.memory, addr, len)?),
         }
+    }
+
+    // Adds the entry of a read with these bytes. It fails only when out of memory, and never if room was made.
+    fn add_read(&mut self, addr: u32, len: u32, bytes: Bytes) -> Result<(), EngineFault>
+        requires free { read_fault self.old.view addr len ≡ None }
+        requires bytes { bytes ≡ bytes_in self.old.view addr len }
+        ensures answer { CallAnswers self.old.view (Call.Read addr len)
+            (reply_of (λ _. Reply.Bytes bytes) result) self.new.view }
+        ensures room { 0 < self.old.room.entries → IsOk result }
+        ensures kept { OnErr result (KeepsRoom self.old self.new) }
+    {
+        self.history.reserve(1)?;
+        self.history.push_reserved(Entry::ReadBack { addr, bytes });
+        Ok(())
     }
 
     /// Marks a range, so that bursts of that kind fail there from then on. Nothing else fails there. The range need not

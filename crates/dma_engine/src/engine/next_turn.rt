@@ -2,7 +2,7 @@
 
 ghost use Rattle.std.specs.Prelude.{◌≡◌, ◌≤◌, IfSome, IsNone, Ok};
 ghost use Rattle.dma_mem.specs.Limits.{last_event};
-ghost use Rattle.dma_engine.specs.Turn.{turn};
+ghost use Rattle.dma_engine.specs.Turn.{ends, turn};
 ghost use Rattle.dma_chan.specs.inner.Acts.{IsOther};
 ghost use Rattle.dma_engine.specs.inner.Due.{IsDue, IsNext, MayStart, Waits, Finishes};
 
@@ -44,6 +44,13 @@ impl Engine {
                 Some(how) => Ok(self.next_finish(ch, how)),
             },
         }
+    }
+
+    /// Returns whether the next `step` of a channel returns [`Turn::Finished`], or `NoMemory` instead of it.
+    pub fn ending(&self, ch: u8) -> bool
+        ensures { result ≡ ends (turn self.now.view ch).0 }
+    {
+        matches!(self.next_turn(ch), Ok(Turn::Finished { .. }))
     }
 
     // Returns the turn of a front that isn't running.

@@ -27,7 +27,7 @@ impl Engine {
         if !transfer.lies_below(self.size) {
             return Err(EngineFault::OutOfMemoryRange);
         }
-        let given = self.queues[index].given();
+        let given = self.queues[index].given;
         if given >= LAST_COOKIE {
             return Err(EngineFault::CookiesSpent);
         }
@@ -110,7 +110,9 @@ impl Engine {
         self.history.reserve(1)?;
         self.history.push_reserved(Entry::Issued { ch });
         let queue = &mut self.queues[index];
-        Ok(queue.issue())
+        let count = queue.given - queue.issued;
+        queue.issued = queue.given;
+        Ok(count)
     }
 
     /// Pauses a channel, so that its steps execute nothing. A paused channel stays paused. It adds no entry and
@@ -145,7 +147,7 @@ impl Engine {
     {
         let index = self.index_of(ch)?;
         let queue = &mut self.queues[index];
-        queue.set_paused(paused);
+        queue.paused = paused;
         Ok(())
     }
 

@@ -1,40 +1,19 @@
-use Rattle.std.proofs.Common.{◌≡◌, ◌+◌, ◌∙◌, ◌++◌, ◌∷◌, [], ap, sym, take, arith}
+use Rattle.std.proofs.Common.{arith}
 use Rattle.std.proofs.{lemmas.Grind.common_steps, lemmas.List.take_more, lemmas.List.take_all}
 use Rattle.dma_engine.proofs.{CallLists.AreAnswers_push, CallLists.chain_extends, OutcomesStay.kept, OutcomesStay.chain_remembers, StaysSound.sound_push}
 use Rattle.dma_engine.proofs.run.run.Goals as goal
 
 pub loop-call-preserved : goal.loop-call-preserved
-loop-call-preserved c =
-    let calls = c.args.calls.now in
-    let i = c.loop-call.call-index in
-    let call = c.call-item.result in
-    let inv = c.loop-call.invariant in
-    let next : take (i + 1) calls ≡ take i calls ++ call ∷ [] = take_more calls i call (omega (arith, c.loop-call-test.true))
-    ∙ ap (λ x. take i calls ++ x ∷ []) (sym c.call-item.is) in
-    rw (next, c.push_reserved.ensures.items) (record {
-      answers = AreAnswers_push c.args.engine.now.view c.loop-call.engine.view c.carry_out.new.self.view (take i calls) c.loop-call.replies.items call
-          c.carry_out.result inv.answers c.carry_out.ensures;
-      views = sound_push c.args.engine.now.view c.loop-call.engine.view c.carry_out.new.self.view (take i calls) c.loop-call.replies.items call
-          c.carry_out.result inv.views c.carry_out.ensures c.facts-in-loop-call.ensures.sound;
-      sound = c.facts-in-loop-call.ensures.sound;
-      memory = c.facts-in-loop-call.ensures.memory;
-      len = omega (arith, c.push_reserved.ensures.len, inv.len);
-      room = omega (arith, c.push_reserved.ensures.capacity, inv.room);
-    })
+loop-call-preserved c = grind (arith, take_more, AreAnswers_push, sound_push)
 
 pub returns-clause-begins : goal.returns-clause-begins
-returns-clause-begins c = λ none.
-    let calls = c.args.calls.now in
-    let all : take c.loop-call.call-index calls ≡ calls = take_all c.loop-call.call-index calls (omega (arith, c.loop-call-test.false)) in
-    chain_extends c.args.engine.now.view c.loop-call.engine.view calls c.loop-call.replies.items none (rw all at c.loop-call.invariant.answers)
+returns-clause-begins c = grind (arith, take_all, chain_extends)
 
 pub returns-clause-kept : goal.returns-clause-kept
 returns-clause-kept c = λ none. kept c.args.engine.now.view c.loop-call.engine.view (returns-clause-begins c none)
 
 pub returns-clause-remembers : goal.returns-clause-remembers
-returns-clause-remembers c =
-    chain_remembers c.args.engine.now.view c.loop-call.engine.view (take c.loop-call.call-index c.args.calls.now) c.loop-call.replies.items
-    c.loop-call.invariant.answers
+returns-clause-remembers c = grind (arith, chain_remembers)
 
 pub returns-in_err-replies-clause-remembers : goal.returns-in_err-replies-clause-remembers
 returns-in_err-replies-clause-remembers c = grind (arith, common_steps)

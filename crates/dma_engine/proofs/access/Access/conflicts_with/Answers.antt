@@ -1,3 +1,4 @@
+use Rattle.std.proofs.Common.{arith}
 use Rattle.std.proofs.Common.{rules, ◌≡◌, ◌||◌, ◌∙◌, ap, sym}
 use Rattle.dma_mem.specs.Places.{destinations, places, range_of, share, sources}
 use Rattle.dma_mem.proofs.TransferRules.{sources_share}
@@ -51,8 +52,7 @@ returns-else-meets_any-2 c =
           ∙ or_second c.meets_any.result _ _ _ first w.if-meets_any.false
           (w.meets_any-else-meets_any.ensures ∙ ap (λ l. share (places l) (places r.sources)) w.dst-else-meets_any.ensures.segments)
     ] in
-    let listed : c.meets_any-else-meets_any-2.result ≡ share (places other.src) (places r.destinations) =
-    rw (← c.src.ensures.segments) (search (rules, c.meets_any-else-meets_any-2.ensures)) in
+    let listed : c.meets_any-else-meets_any-2.result ≡ share (places other.src) (places r.destinations) = grind (arith) in
     let reads : c.meets_any-else-meets_any-2.result ≡ share (sources other) (places r.destinations) = listed
     ∙ sym (sources_share other (places r.destinations) c.src.ensures.rules) in
     let is = or_second c.if-meets_any.value c.meets_any-else-meets_any-2.result _ _ writes c.if-meets_any-2.false reads in

@@ -28,7 +28,7 @@ returns-then-given-ge-LAST_COOKIE-clause-checked c =
     ∙ sym c.if-not-lies_below.ensures.below in
     rw (← c.self.view_is, ← c.in_ok-index.ensures.there.0)
     (check_spent (view_of p) c.in_ok-index.index _ c.args.transfer.now at.there below
-    (omega (arith, at.tied.given, c.given-given.ensures, c.if-given-ge-LAST_COOKIE.true)))
+    (omega (arith, at.tied.given, c.if-given-ge-LAST_COOKIE.true)))
 
 pub returns-clause-checked : goal.returns-clause-checked
 returns-clause-checked c =
@@ -36,6 +36,6 @@ returns-clause-checked c =
     let at = read (goal.at.returns-clause-checked c).After-index in
     let below : lies_below c.args.transfer.now (size (view_of p)) ≡ true = ap (lies_below c.args.transfer.now) (sym (size_is p c.self.invariant))
     ∙ sym c.if-not-lies_below.ensures.below in
-    rw (← c.self.view_is, c.given-given.ensures, at.tied.given, ← c.in_ok-index.ensures.there.0)
+    rw (← c.self.view_is, at.tied.given, ← c.in_ok-index.ensures.there.0)
     (check_fine (view_of p) c.in_ok-index.index _ c.args.transfer.now at.there below
-    (omega (arith, at.tied.given, c.given-given.ensures, c.if-given-ge-LAST_COOKIE.false)))
+    (omega (arith, at.tied.given, c.if-given-ge-LAST_COOKIE.false)))

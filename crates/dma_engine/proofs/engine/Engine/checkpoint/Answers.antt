@@ -1,10 +1,9 @@
-use Rattle.std.proofs.Common.{◌≡◌, ◌<◌, ◌∙◌, ap, length, map, arith, List, true}
+use Rattle.std.proofs.Common.{◌≡◌, ◌<◌, ap, length, map, arith, true}
 use Rattle.std.specs.{Vec.with_items, Prelude.slice_index_or}
 use Rattle.std.proofs.lemmas.List.{with_items_is, length-map, get_or_default}
-use Rattle.dma_engine.specs.{Answer.first_running, inner.Holds.view_of, inner.Holds.queue_forgotten, declared.call.Reply.TheVariants.Done}
-use Rattle.dma_engine.specs.{declared.fault.EngineFault.TheVariants.NoMemory, declared.queue.Queue.Queue, inner.Inside.parts_of}
-use Rattle.dma_mem.specs.declared.call.Call.TheVariants.{Checkpoint}
-use Rattle.dma_engine.proofs.CallCases.{checkpoint_done, checkpoint_refused, checkpoint_starved, named_none, refusal}
+use Rattle.dma_engine.specs.{Answer.first_running, inner.Holds.view_of, inner.Holds.queue_forgotten}
+use Rattle.dma_engine.specs.{inner.Inside.parts_of}
+use Rattle.dma_engine.proofs.CallCases.{checkpoint_done, checkpoint_refused, checkpoint_starved, named_none}
 use Rattle.dma_engine.proofs.{Boards.queue_small, Checkpoint.holds_next, Checkpoint.no_room_next, Checkpoint.view_next, Queues.holds_at}
 use Rattle.dma_engine.proofs.engine.Engine.checkpoint.Goals.{After-forget_all}
 use Rattle.dma_engine.proofs.engine.Engine.checkpoint.Goals as goal
@@ -16,10 +15,7 @@ pub next_base-requires : goal.next_base-requires
 next_base-requires c = named_none _ c.in_default.ensures
 
 pub returns-in_err-base-clause-answer : goal.returns-in_err-base-clause-answer
-returns-in_err-base-clause-answer c =
-    let v = c.args.self.now.view in
-    refusal (λ _. Done) v v Checkpoint NoMemory c.from_residual.result c.from_residual.ensures.1
-    (checkpoint_starved v (named_none _ c.in_default.ensures))
+returns-in_err-base-clause-answer c = grind (arith, checkpoint_starved, named_none)
 
 pub forget_all-requires : goal.forget_all-requires
 forget_all-requires c = λ k d less.
@@ -31,12 +27,7 @@ forget_all-requires c = λ k d less.
 
 -- the queues after it
 all : (c : After-forget_all) → (with_items c.self.inside.queues c.forget_all.new.queues).items ≡ map queue_forgotten c.self.inside.queues.items
-all c =
-    let vec = c.self.inside.queues in
-    let forgotten : c.forget_all.new.queues ≡ map queue_forgotten vec.items = c.forget_all.ensures
-    ∙ ap (λ (l : List Queue). map queue_forgotten l) c.deref_mut.ensures.value in
-    let many : length c.forget_all.new.queues ≡ vec.len = omega (arith, ap length forgotten, length-map vec.items queue_forgotten, vec.ok.0) in
-    with_items_is vec c.forget_all.new.queues many ∙ forgotten
+all c = grind (arith, length-map, with_items_is)
 
 pub invariant_of-self : goal.invariant_of-self
 invariant_of-self c =

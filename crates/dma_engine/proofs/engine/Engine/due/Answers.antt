@@ -24,17 +24,8 @@ returns-clause-due c =
 pub returns-then-index-len-clause-none : goal.returns-then-index-len-clause-none
 returns-then-index-len-clause-none c = grind (arith, common_steps)
 
-pub returns-then-index-len-clause-no_end : goal.returns-then-index-len-clause-no_end
-returns-then-index-len-clause-no_end c = grind (arith, common_steps)
-
 pub returns-then-is_halted-clause-none : goal.returns-then-is_halted-clause-none
 returns-then-is_halted-clause-none c = grind (arith, common_steps)
 
-pub returns-then-is_halted-clause-no_end : goal.returns-then-is_halted-clause-no_end
-returns-then-is_halted-clause-no_end c = grind (arith, common_steps)
-
 pub returns-clause-none : goal.returns-clause-none
 returns-clause-none c = grind (arith, common_steps)
-
-pub returns-clause-no_end : goal.returns-clause-no_end
-returns-clause-no_end c = grind (arith, common_steps)

@@ -1,7 +1,8 @@
 use Rattle.std.proofs.Common.{◌∙◌, arith, refl, sym, inl, inr}
 use Rattle.std.proofs.lemmas.Grind.{common_steps}
 use Rattle.dma_engine.specs.{inner.Due.IsNext, inner.Inside.parts_of}
-use Rattle.dma_engine.proofs.Instructions.{can_execute, failed, moved_answers, moves_or_fails, the_step, went_on}
+use Rattle.dma_engine.proofs.Instructions.{can_execute, moved_answers, the_step}
+use Rattle.dma_engine.proofs.Moves.{failed, moves_or_fails, went_on}
 use Rattle.dma_engine.proofs.{Queues.many_queues, StepCases.due, StepCases.goes_on, StepCases.Due, engine.Engine.execute_other.Goals.After-index_mut-queue}
 use Rattle.dma_engine.proofs.engine.Engine.execute_other.Goals as goal
 

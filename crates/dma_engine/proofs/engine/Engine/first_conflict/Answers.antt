@@ -1,5 +1,5 @@
 use Rattle.std.proofs.Common.{rules, ◌≡◌, ◌<◌, ◌+◌, ap, sym, ◌∙◌, subst, arith, length, Option}
-use Rattle.dma_engine.specs.View.{EngineState, object_of, channels, runs, state_at}
+use Rattle.dma_engine.specs.View.{object_of, channels, runs, state_at}
 use Rattle.dma_engine.specs.{declared.access.Ranges.Ranges, inner.Inside.parts_of, Object.finished, inner.Holds.state_in}
 use Rattle.dma_engine.specs.{inner.Ranges.AreOfRunning, inner.Accesses.named, inner.Accesses.conflicts}
 use Rattle.dma_engine.proofs.Conflicts.{nothing_there, passed_over, way_here}
@@ -22,9 +22,7 @@ read c =
 
 -- the ranges that it keeps are of what runs in the view
 kept : (c : After-index-queue) → let v = c.args.self.now.view in AreOfRunning c.index-queue.result.now.ranges (runs (object_of v) v.schedule c.loop-index.index)
-kept c =
-    subst (λ (s : EngineState). AreOfRunning c.index-queue.result.now.ranges (runs (object_of s.view) s.view.schedule c.loop-index.index)) c.self.view_is
-    (read c).ranges
+kept c = grind arith
 
 pub finished-cookie-requires : goal.finished-cookie-requires
 finished-cookie-requires c = omega (arith, queue_small (read (goal.at.finished-cookie-requires c).After-index-queue))
@@ -41,8 +39,7 @@ returns-then-conflicts_with c =
     let at = read here in
     let less : i < length (object_of v).channels = omega (arith, at.there, ap channels (seen c.self.view_is)) in
     let done : c.finished-cookie.result ≡ finished (state_in p i) = omega (arith, c.finished-cookie.ensures, at.tied.forgotten, ap length at.tied.outcomes) in
-    let number : c.finished-cookie.result + 1 ≡ finished (state_at v i) + 1 =
-    ap (λ n. n + 1) (done ∙ ap (λ (s : EngineState). finished (state_at s.view i)) c.self.view_is) in
+    let number : c.finished-cookie.result + 1 ≡ finished (state_at v i) + 1 = grind (arith) in
     let there = subst (λ (o : Option Ranges). AreOfRunning o (runs (object_of v) v.schedule i)) (sym c.in-Some.ensures) (kept here) in
     search (
       rules,
@@ -69,6 +66,5 @@ returns c =
     let v = c.args.self.now.view in
     let test = conflicts c.args.access.now in
     let many = many_queues (parts_of c.self.inside) c.self.invariant ∙ ap channels (seen c.self.view_is) in
-    let all : length (object_of v).channels ≡ c.loop-index.index =
-    omega (arith, many, c.loop-index-test.false, c.len-index-end.ensures, c.self.inside.queues.ok.0) in
+    let all : length (object_of v).channels ≡ c.loop-index.index = grind (arith) in
     sym (ap named (find_all (λ r. test r.transfer) (object_of v) v.schedule c.loop-index.index all c.loop-index.invariant))

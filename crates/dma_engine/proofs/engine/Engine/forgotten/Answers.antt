@@ -1,24 +1,12 @@
-use Rattle.std.proofs.Common.{◌≡◌, ◌<◌, ◌≤◌, ◌∙◌, ap, arith, length, sym}
+use Rattle.std.proofs.Common.{◌≤◌, ◌∙◌, ap, arith, length, sym}
 use Rattle.std.proofs.{lemmas.Bool.ltb-true, lemmas.List.get_or_past}
-use Rattle.dma_engine.specs.{inner.Inside.parts_of, Object.channel, Object.empty_channel, Object.finished, Ticks.Counts, Ticks.board_of, Ticks.counts}
+use Rattle.dma_engine.specs.{inner.Inside.parts_of, Object.empty_channel, Object.finished, Ticks.Counts, Ticks.board_of, Ticks.counts}
 use Rattle.dma_engine.specs.{View.EngineState}
 use Rattle.dma_engine.proofs.{Boards.counts_at, OutcomesStay.forgotten_stays, Queues.holds_at, Queues.many_queues, Sizes.many_channels}
 use Rattle.dma_engine.proofs.engine.Engine.forgotten.Goals as goal
 
 pub returns-in-Some-clause-base : goal.returns-in-Some-clause-base
-returns-in-Some-clause-base c =
-    let p = parts_of c.self.inside in
-    let i = c.from.result in
-    let queues = c.self.inside.queues.items in
-    let found = rw c.deref.ensures.value at c.in-Some.ensures.lookup in
-    let less : i < length queues = ltb-true i (length queues) (sym found.0) in
-    let at = holds_at p c.self.invariant i c.in-Some.queue.now less found.1 in
-    let none : length (channel p.base i).outcomes ≡ 0 = ap length (c.self.invariant.sound.opens.each i).outcomes in
-    let same : c.forgotten.result ≡ finished (channel p.base i) =
-    omega (arith, c.forgotten.ensures, at.tied.forgotten, forgotten_stays p.base p.history i, none) in
-    same ∙ sym (ap (λ (x : Counts). x.finished) (counts_at p.base i))
-    ∙ ap (λ n. (counts (board_of p.base) n).finished) c.from.ensures
-    ∙ ap (λ (s : EngineState). (counts (board_of s.view.base) c.args.ch).finished) c.self.view_is
+returns-in-Some-clause-base c = grind (arith, ltb-true, holds_at, forgotten_stays, counts_at)
 
 pub returns-in-None-clause-base : goal.returns-in-None-clause-base
 returns-in-None-clause-base c =

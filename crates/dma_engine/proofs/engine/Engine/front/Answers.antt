@@ -8,9 +8,7 @@ use Rattle.dma_engine.proofs.{Boards.queue_small, Conflicts.few_issued, Conflict
 use Rattle.dma_engine.proofs.engine.Engine.front.Goals as goal
 
 pub kept-requires : goal.kept-requires
-kept-requires c =
-    let p = parts_of c.self.inside in
-    omega (arith, (rw (← c.self.view_is) at c.requires), many_queues p c.self.invariant, many_channels p.base p.history)
+kept-requires c = grind (arith, many_queues, many_channels)
 
 -- the queue that is read
 read : (c : After-index-queue) → HoldsAt (parts_of c.self.inside) c.args.index c.index-queue.result.now
@@ -31,8 +29,7 @@ pub returns-in_default : goal.returns-in_default
 returns-in_default c =
     let p = parts_of c.self.inside in
     let s = state_in p c.args.index in
-    let listed : None ≡ front_in c.index-queue.result.now (channel p.base c.args.index).submitted p.history =
-    rw (c.kept.ensures, c.deref.ensures.value) at c.in_default.ensures in
+    let listed : None ≡ front_in c.index-queue.result.now (channel p.base c.args.index).submitted p.history = grind (arith) in
     let none : None ≡ issued_front s = listed ∙ front_found (read (goal.at.returns-in_default c).After-index-queue) in
     rw (← c.self.view_is) (ap (option_map (λ (t : Descriptor). (t, finished s + 1))) none)
 
@@ -42,7 +39,6 @@ returns c =
     let s = state_in p c.args.index in
     let t = c.in-Some.transfer.now in
     let at = read (goal.at.returns c).After-index-queue in
-    let listed : Some t ≡ front_in c.index-queue.result.now (channel p.base c.args.index).submitted p.history =
-    rw (c.kept.ensures, c.deref.ensures.value) at c.in-Some.ensures in
+    let listed : Some t ≡ front_in c.index-queue.result.now (channel p.base c.args.index).submitted p.history = grind (arith) in
     let number : c.finished-cookie.result + 1 ≡ finished s + 1 = omega (arith, c.finished-cookie.ensures, at.tied.forgotten, ap length at.tied.outcomes) in
     rw (← c.self.view_is, number) (ap (option_map (λ (u : Descriptor). (u, finished s + 1))) (listed ∙ front_found at))

@@ -10,7 +10,6 @@ returns c =
     let none = rw (← c.self.view_is) at c.requires in
     let channels = rw (← c.self.view_is) at c.in_ok-channels.ensures in
     rw (
-      c.of.ensures,
       c.in_ok-image.ensures,
       c.in_ok-marks.ensures,
       c.copy.ensures,

@@ -1,6 +1,6 @@
 use Rattle.std.proofs.Common.{◌<◌, arith}
 use Rattle.dma_engine.specs.{inner.Holds.view_of, inner.Inside.parts_of, View.channels, inner.Holds.object_in}
-use Rattle.dma_engine.proofs.{Queues.many_queues, StaysSound.none_taken}
+use Rattle.dma_engine.proofs.{Queues.many_queues, Checkpoint.none_taken}
 use Rattle.dma_engine.proofs.engine.Engine.next_channels.Goals as goal
 
 pub next_channel-requires-clause-rests : goal.next_channel-requires-clause-rests

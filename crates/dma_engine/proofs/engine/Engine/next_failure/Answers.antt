@@ -1,7 +1,7 @@
 use Rattle.std.proofs.Common.{◌∙◌, ap}
 use Rattle.dma_chan.specs.Exec.{fault_in}
 use Rattle.dma_engine.specs.{inner.Due.IsNext, inner.Inside.parts_of}
-use Rattle.dma_engine.proofs.{Instructions.the_step, Instructions.fails_next, Instructions.moves_next, StepCases.due, StepCases.due_ahead, StepCases.goes_on}
+use Rattle.dma_engine.proofs.{Instructions.the_step, Moves.fails_next, Moves.moves_next, StepCases.due, StepCases.due_ahead, StepCases.goes_on}
 use Rattle.dma_engine.proofs.StepCases.{Due}
 use Rattle.dma_engine.proofs.engine.Engine.next_failure.Goals.{After-index-queue}
 use Rattle.dma_engine.proofs.engine.Engine.next_failure.Goals as goal

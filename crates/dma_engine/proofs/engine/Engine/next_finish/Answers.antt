@@ -1,19 +1,12 @@
-use Rattle.std.proofs.Common.{◌≡◌, Option, ◌+◌, ◌∙◌, None, ap, sym}
-use Rattle.std.specs.Option.{option_map}
-use Rattle.dma_mem.specs.Places.{Descriptor}
-use Rattle.dma_engine.specs.{Object.finished, inner.Due.Finishes, inner.Due.front_with_cookie, inner.Holds.view_of, inner.Holds.state_in}
+use Rattle.std.proofs.Common.{arith}
+use Rattle.std.proofs.Common.{◌∙◌, ap, sym}
+use Rattle.dma_engine.specs.{inner.Due.Finishes, inner.Holds.view_of, inner.Holds.state_in}
 use Rattle.dma_engine.specs.{inner.Inside.parts_of, Turn.Stepped}
 use Rattle.dma_engine.proofs.{StartsAndEnds.finish_is, StartsAndEnds.finish_left, StartsAndEnds.front_with_cookie_law, StepCases.due_there}
 use Rattle.dma_engine.proofs.engine.Engine.next_finish.Goals as goal
 
 pub unreachable-requires : goal.unreachable-requires
-unreachable-requires c =
-    let p = parts_of c.self.inside in
-    let s = state_in p c.args.ch in
-    let w = due_there p c.self.invariant c.args.ch (Finishes (view_of p) c.args.how) (rw (← c.self.view_is) at c.requires) in
-    let none : None ≡ front_with_cookie s = rw (c.from-index.ensures, ← c.self.view_is) at c.in_default.ensures in
-    let never = none ∙ ap (λ (o : Option Descriptor). option_map (λ (t : Descriptor). (t, finished s + 1)) o) w.1.it.issued in
-    cc
+unreachable-requires c = grind (arith, due_there)
 
 pub returns : goal.returns
 returns c =

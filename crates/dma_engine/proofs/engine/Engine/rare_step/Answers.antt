@@ -1,12 +1,13 @@
 use Rattle.std.proofs.lemmas.Grind.{common_steps}
 use Rattle.std.proofs.Common.{arith, rules}
+use Rattle.dma_engine.proofs.StepCases.{due_weaker}
 use Rattle.dma_engine.proofs.engine.Engine.rare_step.Goals as goal
 
 pub pass-requires-clause-waits : goal.pass-requires-clause-waits
 pass-requires-clause-waits c = search rules
 
-pub signal-requires-clause-signals : goal.signal-requires-clause-signals
-signal-requires-clause-signals c = search rules
+pub enter-requires-clause-adds : goal.enter-requires-clause-adds
+enter-requires-clause-adds c = grind (arith, due_weaker)
 
 pub finish-requires : goal.finish-requires
 finish-requires c = search rules
@@ -60,10 +61,10 @@ pub returns-in-Wfe-clause-kept : goal.returns-in-Wfe-clause-kept
 returns-in-Wfe-clause-kept c = c.pass.ensures.kept
 
 pub returns-in-Sev-clause-answer : goal.returns-in-Sev-clause-answer
-returns-in-Sev-clause-answer c = c.signal.ensures.answer
+returns-in-Sev-clause-answer c = c.enter.ensures.answer
 
 pub returns-in-Sev-clause-kept : goal.returns-in-Sev-clause-kept
-returns-in-Sev-clause-kept c = c.signal.ensures.kept
+returns-in-Sev-clause-kept c = c.enter.ensures.kept
 
 pub returns-in-End-clause-kept : goal.returns-in-End-clause-kept
 returns-in-End-clause-kept c = c.finish.ensures.kept

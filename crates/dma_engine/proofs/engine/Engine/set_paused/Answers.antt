@@ -1,16 +1,11 @@
 use Rattle.std.proofs.Common.{ap, arith, refl}
-use Rattle.std.specs.Prelude.{if◌then◌else◌}
-use Rattle.dma_mem.specs.declared.call.Call.TheVariants.{Pause, Resume}
-use Rattle.dma_engine.specs.{declared.call.Reply.TheVariants.Done, inner.Holds.view_of, inner.Inside.parts_of, View.object_of}
-use Rattle.dma_engine.proofs.{CallCases.paused_done, CallCases.paused_gone, CallCases.refusal, QueueCalls.holds_paused, QueueCalls.view_paused, Queues.HoldsAt}
+use Rattle.dma_engine.specs.{inner.Holds.view_of, inner.Inside.parts_of, View.object_of}
+use Rattle.dma_engine.proofs.{CallCases.paused_done, CallCases.paused_gone, QueueCalls.holds_paused, QueueCalls.view_paused, Queues.HoldsAt}
 use Rattle.dma_engine.proofs.{Queues.queue_there, Rooms.keeps_room, engine.Engine.set_paused.Goals.After-index_mut-queue, Queues.seen, Queues.holds_there}
 use Rattle.dma_engine.proofs.engine.Engine.set_paused.Goals as goal
 
 pub returns-in_err-index-clause-answer : goal.returns-in_err-index-clause-answer
-returns-in_err-index-clause-answer c =
-    let v = c.args.self.now.view in
-    refusal (λ _. Done) v v (if c.args.paused then Pause c.args.ch else Resume c.args.ch) _ c.from_residual.result c.from_residual.ensures.1
-    (rw c.in_err-index.ensures.none.0 (paused_gone v c.args.ch c.args.paused c.in_err-index.ensures.none.1))
+returns-in_err-index-clause-answer c = grind (arith, paused_gone)
 
 -- the queue that is read
 read : (c : After-index_mut-queue) → HoldsAt (parts_of c.self.inside) c.in_ok-index.index c.index_mut-queue.result.now
@@ -19,13 +14,13 @@ read c = holds_there c.self.invariant (seen c.self.view_is) c.in_ok-index.ensure
 pub invariant_of-self : goal.invariant_of-self
 invariant_of-self c =
     let q = c.index_mut-queue.result.now in
-    rw c.set_paused.ensures (holds_paused (read (goal.at.invariant_of-self c).After-index_mut-queue) q.indices.spare q.outcomes.spare c.args.paused)
+    holds_paused (read (goal.at.invariant_of-self c).After-index_mut-queue) q.indices.spare q.outcomes.spare c.args.paused
 
 pub returns-clause-answer : goal.returns-clause-answer
 returns-clause-answer c =
     let q = c.index_mut-queue.result.now in
     let at = read (goal.at.returns-clause-answer c).After-index_mut-queue in
-    rw (← c.self.view_is, c.set_paused.ensures, ← c.in_ok-index.ensures.there.0)
+    rw (← c.self.view_is, ← c.in_ok-index.ensures.there.0)
     (paused_done (view_of (parts_of c.self.inside)) _ c.in_ok-index.index c.args.paused at.there
     (view_paused at q.indices.spare q.outcomes.spare c.args.paused))
 
@@ -33,8 +28,8 @@ pub returns-clause-kept : goal.returns-clause-kept
 returns-clause-kept c =
     let q = c.index_mut-queue.result.now in
     let at = read (goal.at.returns-clause-kept c).After-index_mut-queue in
-    rw c.set_paused.ensures (keeps_room at (record q { paused = c.args.paused }) _ _ _ c.self.view_is
-    (ap object_of (view_paused at q.indices.spare q.outcomes.spare c.args.paused)) (omega arith) refl (omega arith) (omega arith))
+    keeps_room at (record q { paused = c.args.paused }) _ _ _ c.self.view_is
+    (ap object_of (view_paused at q.indices.spare q.outcomes.spare c.args.paused)) (omega arith) refl (omega arith) (omega arith)
 
 pub index_mut-queue-requires : goal.index_mut-queue-requires
 index_mut-queue-requires c = omega (arith, queue_there c.self.invariant (seen c.self.view_is) c.in_ok-index.ensures.there, c.self.inside.queues.ok.0)

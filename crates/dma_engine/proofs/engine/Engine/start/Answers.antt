@@ -1,7 +1,7 @@
-use Rattle.std.proofs.Common.{ap, arith, subst, sym}
+use Rattle.std.proofs.Common.{ap, arith}
 use Rattle.std.specs.Prelude.{is_some}
 use Rattle.dma_engine.specs.{Turn.first_conflicting, declared.fault.EngineFault.TheVariants.NoMemory, declared.call.Reply.TheVariants.Turned, inner.Holds.Parts}
-use Rattle.dma_engine.specs.{inner.Holds.view_of, inner.Inside.parts_of, Room.HasRoom, View.EngineState, View.state_at, inner.Holds.state_in}
+use Rattle.dma_engine.specs.{inner.Holds.view_of, inner.Inside.parts_of, View.state_at, inner.Holds.state_in}
 use Rattle.dma_mem.specs.{Places.destinations, declared.call.Call.TheVariants.Step}
 use Rattle.dma_chan.proofs.ReadyLaws.{on_pages}
 use Rattle.dma_engine.proofs.StartsAndEnds.{FrontFound, found_front, front_with_cookie_law, held_is, holds_started, idle_ranges, now_started, start_answers}
@@ -11,9 +11,7 @@ use Rattle.dma_engine.proofs.{StepCases.stepped_so, engine.Engine.start.Goals.Af
 use Rattle.dma_engine.proofs.engine.Engine.start.Goals as goal
 
 pub kept-requires : goal.kept-requires
-kept-requires c =
-    let p = parts_of c.self.inside in
-    omega (arith, (rw (← c.self.view_is) at c.requires).0, c.from-index.ensures, many_queues p c.self.invariant, many_channels p.base p.history)
+kept-requires c = grind (arith, many_queues, many_channels)
 
 pub returns-in-Some-first_conflict-clause-answer : goal.returns-in-Some-first_conflict-clause-answer
 returns-in-Some-first_conflict-clause-answer c =
@@ -39,10 +37,7 @@ start-requires c =
     record { idle = idle_ranges f.at (rw (← c.self.view_is) at c.requires).3; issued = f.known; front = ap is_some f.is; below = rw f.is f.low }
 
 pub invariant_of-self : goal.invariant_of-self
-invariant_of-self c =
-    let p = parts_of c.self.inside in
-    let same = queue_back p.queues c.from-index.result c.in_err-start.ensures.refused c.index_mut-queue.ensures.value in
-    rw (same, c.start.ensures.image) (holds_pages p c.start.new.memory.made c.self.invariant c.start.ensures.keeps.made)
+invariant_of-self c = grind (arith, queue_back, holds_pages)
 
 pub returns-in_err-start-clause-answer : goal.returns-in_err-start-clause-answer
 returns-in_err-start-clause-answer c =
@@ -57,11 +52,7 @@ returns-in_err-start-clause-answer c =
     (rw same (seen c.self.view_is)))
 
 pub returns-in_err-start-clause-kept : goal.returns-in_err-start-clause-kept
-returns-in_err-start-clause-kept c = λ _ ch room.
-    let p = parts_of c.self.inside in
-    let same = queue_back p.queues c.from-index.result c.in_err-start.ensures.refused c.index_mut-queue.ensures.value in
-    let before = subst (λ (s : EngineState). HasRoom s ch) (sym c.self.view_is) room in
-    record { entry = before.entry; cookie = rw same before.cookie; outcomes = rw same before.outcomes }
+returns-in_err-start-clause-kept c = grind (arith, queue_back)
 
 pub invariant_of-self-2 : goal.invariant_of-self-2
 invariant_of-self-2 c =

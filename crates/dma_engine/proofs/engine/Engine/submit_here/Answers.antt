@@ -10,8 +10,7 @@ use Rattle.dma_engine.proofs.engine.Engine.submit_here.Goals as goal
 read : (c : After-index_mut-queue) → HoldsAt (parts_of c.self.inside) c.from.result c.index_mut-queue.result.now
 read c =
     let p = parts_of c.self.inside in
-    let none : submit_fault (view_of p) c.from.result c.args.transfer ≡ None =
-    checked_none _ _ _ (rw (← c.self.view_is, ← c.from.ensures) at c.requires.checked) in
+    let none : submit_fault (view_of p) c.from.result c.args.transfer ≡ None = grind (arith, checked_none) in
     holds_at p c.self.invariant c.from.result c.index_mut-queue.result.now
     (omega (arith, many_queues p c.self.invariant, (submit_open (view_of p) c.from.result c.args.transfer none).0)) c.index_mut-queue.ensures.value
 

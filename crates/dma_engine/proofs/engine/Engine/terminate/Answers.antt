@@ -1,9 +1,7 @@
 use Rattle.std.proofs.Common.{arith, refl}
 use Rattle.std.proofs.{lemmas.Grind.common_steps}
-use Rattle.dma_mem.specs.declared.call.Call.TheVariants.{Terminate}
-use Rattle.dma_engine.specs.{declared.call.Reply.TheVariants.Count}
-use Rattle.dma_engine.specs.{declared.fault.EngineFault.TheVariants.NoMemory, inner.Holds.view_of, inner.Inside.parts_of}
-use Rattle.dma_engine.proofs.CallCases.{refusal, terminate_done, terminate_starved}
+use Rattle.dma_engine.specs.{inner.Holds.view_of, inner.Inside.parts_of}
+use Rattle.dma_engine.proofs.CallCases.{terminate_done, terminate_starved}
 use Rattle.dma_engine.proofs.{StartsAndEnds.holds_terminated, StartsAndEnds.view_terminated, Queues.HoldsAt, Queues.queue_there, Queues.seen, Queues.queue_back}
 use Rattle.dma_engine.proofs.{Rooms.unfinished_found, Sizes.many_channels, engine.Engine.terminate.Goals.After-index_mut-queue, Queues.holds_there}
 use Rattle.dma_engine.proofs.engine.Engine.terminate.Goals as goal
@@ -71,25 +69,13 @@ pub invariant_of-self : goal.invariant_of-self
 invariant_of-self c = rw c.reserve.ensures.items c.self.invariant
 
 pub returns-in_err-reserve-clause-answer : goal.returns-in_err-reserve-clause-answer
-returns-in_err-reserve-clause-answer c =
-    let v = view_of (parts_of c.self.inside) in
-    let there = rw (← c.self.view_is) at c.in_ok-index.ensures.there in
-    rw (← c.self.view_is, c.reserve.ensures.items)
-    (refusal (λ n. Count n) v v (Terminate c.args.ch) NoMemory c.from_residual-in_err-reserve.result c.from_residual-in_err-reserve.ensures.1
-    (terminate_starved v c.args.ch there.1))
+returns-in_err-reserve-clause-answer c = grind (arith, terminate_starved)
 
 pub returns-in_err-reserve-clause-room : goal.returns-in_err-reserve-clause-room
 returns-in_err-reserve-clause-room c = rw (← c.self.view_is) (λ room. absurd (omega (arith, room.entry, c.in_err-reserve.ensures.full)))
 
 pub returns-in_err-terminate-clause-answer : goal.returns-in_err-terminate-clause-answer
-returns-in_err-terminate-clause-answer c =
-    let p = parts_of c.self.inside in
-    let v = view_of p in
-    let there = rw (← c.self.view_is) at c.in_ok-index.ensures.there in
-    let same = queue_back p.queues c.in_ok-index.index c.in_err-terminate.ensures.refused c.index_mut-queue.ensures.value in
-    rw (same, c.reserve.ensures.items, ← c.self.view_is)
-    (refusal (λ n. Count n) v v (Terminate c.args.ch) NoMemory c.from_residual-in_err-terminate.result c.from_residual-in_err-terminate.ensures.1
-    (terminate_starved v c.args.ch there.1))
+returns-in_err-terminate-clause-answer c = grind (arith, queue_back, terminate_starved)
 
 pub returns-clause-room : goal.returns-clause-room
 returns-clause-room c = λ _. tt

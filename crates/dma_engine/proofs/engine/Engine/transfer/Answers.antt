@@ -1,4 +1,4 @@
-use Rattle.std.proofs.Common.{◌≡◌, ◌∙◌, Some, None, ap, sym, arith}
+use Rattle.std.proofs.Common.{◌≡◌, ◌∙◌, Some, None, ap, arith}
 use Rattle.std.specs.Prelude.{slice_index_or, unwrap_or}
 use Rattle.dma_engine.specs.{inner.Found.transfer_at, inner.Inside.parts_of, Object.channel, Object.no_transfer, View.EngineState, View.state_at}
 use Rattle.dma_engine.proofs.{Queues.holds_at, Queues.many_queues, Queues.transfer_found, Sizes.many_channels, Queues.HoldsAt}
@@ -6,10 +6,7 @@ use Rattle.dma_engine.proofs.engine.Engine.transfer.Goals.{After-index-queue}
 use Rattle.dma_engine.proofs.engine.Engine.transfer.Goals as goal
 
 pub kept-kept-requires : goal.kept-kept-requires
-kept-kept-requires c =
-    let p = parts_of c.self.inside in
-    let there = rw (← c.self.view_is) at c.requires.there in
-    omega (arith, there, many_queues p c.self.invariant, many_channels p.base p.history)
+kept-kept-requires c = grind (arith, many_queues, many_channels)
 
 -- the queue that is read
 read : (c : After-index-queue) → HoldsAt (parts_of c.self.inside) c.args.index c.index-queue.result.now
@@ -29,8 +26,7 @@ unreachable-requires c =
     let i = c.args.index in
     let q = c.index-queue.result.now in
     let found = transfer_found (read (goal.at.unreachable-requires c).After-index-queue).tied c.args.n (rw (← c.self.view_is) at c.requires.given) in
-    let none : transfer_at (channel p.base i).submitted p.history q.indices.items c.args.n ≡ None =
-    rw (c.kept-kept.ensures, c.deref.ensures.value) at (sym c.in_default.ensures) in
+    let none : transfer_at (channel p.base i).submitted p.history q.indices.items c.args.n ≡ None = grind (arith) in
     absurd (cc (none, found))
 
 pub returns : goal.returns
@@ -40,7 +36,6 @@ returns c =
     let q = c.index-queue.result.now in
     let t = c.in-Some.transfer.now in
     let found = transfer_found (read (goal.at.returns c).After-index-queue).tied c.args.n (rw (← c.self.view_is) at c.requires.given) in
-    let listed : Some t ≡ transfer_at (channel p.base i).submitted p.history q.indices.items c.args.n =
-    rw (c.kept-kept.ensures, c.deref.ensures.value) at c.in-Some.ensures in
+    let listed : Some t ≡ transfer_at (channel p.base i).submitted p.history q.indices.items c.args.n = grind (arith) in
     ap (λ o. unwrap_or o t) (listed ∙ found)
     ∙ ap (λ (s : EngineState). slice_index_or (state_at s.view i).submitted c.args.n no_transfer) c.self.view_is

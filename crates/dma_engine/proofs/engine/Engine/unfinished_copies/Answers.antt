@@ -17,8 +17,7 @@ loop-n-preserved c =
     let found = rw (← c.self.view_is) at c.transfer.ensures in
     let back : first + (n - first) ≡ n = omega (arith, c.loop-n.auto.n) in
     let next : n + 1 - first ≡ (n - first) + 1 = omega (arith, c.loop-n.auto.n) in
-    let within : n - first < length (drop first ts) =
-    omega (arith, c.loop-n-test.true, c.loop-n.auto.n, at.tied.given, at.tied.forgotten, length-drop first ts) in
+    let within : n - first < length (drop first ts) = grind (arith, length-drop) in
     let here : slice_index_or (drop first ts) (n - first) no_transfer ≡ c.transfer.result.now = get_or-drop first ts (n - first) no_transfer
     ∙ ap (λ i. slice_index_or ts i no_transfer) back ∙ sym found in
     rw (← c.self.view_is, next)
