@@ -1,14 +1,13 @@
 -- A copy on a board.
 use Rattle.std.proofs.Common.{◌≡◌, ◌∙◌, ℕ, zero, suc, ◌+◌, ◌-◌, ◌<◌, Bool, true, false, ◌&&◌, List, length, Option, None, ap, refl, sym, subst, arith, inl, inr}
-use Rattle.std.proofs.Common.{true≢false}
 use Rattle.std.specs.Prelude.{◌==◌, if◌then◌else◌, slice_get, slice_index}
 use Rattle.std.proofs.lemmas.Bool.{and_parts, cases_Bool, eqb-false, eqb-true}
 use Rattle.std.proofs.lemmas.List.{get_or-set_other, length-set}
 use Rattle.dma_mem.specs.{Regions.Piece, Regions.image_of, Regions.pieces_of, declared.regions.Region.Region}
 use Rattle.dma_explain.specs.{Explains.Work, Works.IsWorked, Works.Uses, Works.work_below}
-use Rattle.dma_chan.specs.Written.{LiesIn, range_at}
+use Rattle.dma_chan.specs.Written.{range_at}
 use Rattle.dma_explain.proofs.CallStays.{load_executes}
-use Rattle.dma_device.specs.Accesses.{Access, Answer, Does, Resets, Restores, Stores, Turned, Turns, Writes}
+use Rattle.dma_device.specs.Accesses.{Access, Answer, Does, Resets, Restores, Stores, Turns, Writes}
 use Rattle.dma_device.specs.Board.{ABoardCopies, BoardRunsCopy, BoardSpares, BoardStaysIn, CopiesOn, Happens, BoardEvents, RunsOn, SparesBytes, SparesThread}
 use Rattle.dma_device.specs.Board.{WritesApart, is_turn, is_turn_at, later, most_of, turns_of}
 use Rattle.dma_device.specs.Device.{DeviceValue, program_at, written}
@@ -27,18 +26,15 @@ rests : (e : DeviceValue) (regions : List Region) (n : ℕ)
 rests e regions n = record { is = refl; kept = record { places = refl; read_only = refl; names = refl } }
 
 turn_access : (n : ℕ) (a : Access) → is_turn n a ≡ true → a ≡ Turns n (most_of a)
-turn_access n (Turns m most) on = ap (λ (j : ℕ). Turns j most) (eqb-true m n on)
-turn_access n a on = absurd (true≢false (sym on))
+turn_access n a h = grind (arith, eqb-true)
 
-not_both : (c t : Bool) → c ≡ true → (c && t) ≡ false → t ≡ false
-not_both true t is off = off
-not_both false t is off = absurd (true≢false (sym is))
+-- what is true in both cases of a test
+by_test : (P : Bool → Type 0) (b : Bool) → (b ≡ true → P true) → (b ≡ false → P false) → P b
+by_test P b h h2 = grind (arith)
 
 -- a turn of channel n of device b
 own_parts : (h : BoardEvents) (b n k : ℕ) → is_turn_at h b n k ≡ true → (h.device k ≡ b) × (h.access k ≡ Turns n (most_of (h.access k)))
-own_parts h b n k on =
-    let both = and_parts (h.device k == b) (is_turn n (h.access k)) on in
-    (eqb-true (h.device k) b both.0, turn_access n (h.access k) both.1)
+own_parts h b n k on = grind (arith, and_parts, eqb-true, turn_access)
 
 -- an access that spares thread n leaves it as it is
 thread_same : (n : ℕ) (a : Access) (d e : DeviceValue) (regions left : List Region) (answer : Answer) → Does a d regions answer e left → is_turn n a ≡ false
@@ -54,9 +50,7 @@ thread_same n a d e regions left answer does off spares = ap (λ (v : DeviceValu
 -- an access that spares a work leaves each byte that the work uses
 byte_same : (w : Work) (a : Access) (d e : DeviceValue) (regions left : List Region) (answer : Answer) (x : ℕ) → Does a d regions answer e left
     → SparesBytes w a answer → Uses w x → slice_index (image_in left) x ≡ slice_index (image_in regions) x
-byte_same w (Stores addr byte) d e regions left answer x does spares uses =
-    ap (λ (bytes : List ℕ). slice_index bytes x) does.4
-    ∙ get_or-set_other (image_in regions) addr x byte 0 (λ same. spares (subst (Uses w) same uses))
+byte_same w (Stores addr byte) d e regions left answer x does spares uses = grind (arith, get_or-set_other)
 byte_same w (Turns m most) d e regions left answer x does spares uses =
     (turn_writes_each d regions m most e left does.0 does.1.1).no_other.bytes x (spares does.0 x does.1.0 uses)
 byte_same w a d e regions left answer x does spares uses = ap (λ (ps : List Piece). slice_index (image_of ps) x) does.2.pieces
@@ -70,24 +64,11 @@ size_same a d e regions left answer does = ap (λ (ps : List Piece). length (ima
 
 -- a device whose debug registers have the driver's DMAGO is the one after its writes to them
 readied : (d : DeviceValue) (word addr : ℕ) → d.dbginst0 ≡ word → d.dbginst1 ≡ addr → record d { dbginst0 = word; dbginst1 = addr } ≡ d
-readied d word addr first second =
-    ap (λ (v : ℕ). let e : DeviceValue = record d { dbginst0 = v; dbginst1 = addr } in e) (sym first)
-    ∙ ap (λ (v : ℕ). let e : DeviceValue = record d { dbginst1 = v } in e) (sym second)
+readied d word addr first second = grind arith
 
 -- the events from number s on happen
 pub happens_later : (h : BoardEvents) (s : ℕ) → Happens h → Happens (later s h)
-happens_later h s c = record {
-  does = λ k less. (
-      let b = h.device (s + k) in
-      let e : s + k + 1 ≡ s + (k + 1) = omega arith in
-      subst (λ (j : ℕ). Does (h.access (s + k)) (h.before (s + k) b) (h.lent (s + k)) (h.answer (s + k)) (h.before j b) (h.left (s + k))) e
-      (c.does (s + k) (omega (arith, less)))
-      );
-  others = λ k b less other. (
-      let e : s + k + 1 ≡ s + (k + 1) = omega arith in
-      subst (λ (j : ℕ). h.before j b ≡ h.before (s + k) b) e (c.others (s + k) b (omega (arith, less)) other)
-      );
-}
+happens_later h s c = grind arith
 
 -- ---- a program that a DMAGO starts
 
@@ -119,7 +100,7 @@ module _ (go : Go) (w : Work) (n b : ℕ) (h : BoardEvents) (c : RunsOn go w n b
     | inl own ↦
         let there = eqb-true (h.device k) b own in
         thread_same go.channel (h.access k) (h.before k b) (h.before (k + 1) b) (h.lent k) (h.left k) (h.answer k) (does_at k less there)
-        (not_both (h.device k == b) (is_turn go.channel (h.access k)) own off) (c.thread k past less there)
+        (sym (ap (λ (c : Bool). c && is_turn go.channel (h.access k)) own) ∙ off) (c.thread k past less there)
     | inr other ↦
         ap (λ (v : DeviceValue). slice_get v.threads go.channel) (c.happens.others k b less (λ same. eqb-false (h.device k) b other (sym same)))
   ]
@@ -127,10 +108,7 @@ module _ (go : Go) (w : Work) (n b : ℕ) (h : BoardEvents) (c : RunsOn go w n b
   -- ---- event number 0
 
   not_own : is_own 0 ≡ false
-  not_own = elim (cases_Bool (is_own 0)) [
-    | inr off ↦ off
-    | inl on ↦ absurd (let bad = sym c.begins.access ∙ (own_parts h b go.channel 0 on).1 in cc)
-  ]
+  not_own = grind (arith, cases_Bool, own_parts)
 
   first_does : DoesAt 0 b (Writes offset.dbgcmd 0)
   first_does = subst (DoesAt 0 b) c.begins.access (does_at 0 c.begins.some c.begins.number)
@@ -213,48 +191,7 @@ module _ (go : Go) (w : Work) (n b : ℕ) (h : BoardEvents) (c : CopiesOn go w n
       byte_same w (h.access k) (h.before k m) (h.before (k + 1) m) (h.lent k) (h.left k) (h.answer k) a (r.happens.does k less) (c.bytes k less off) uses
 
   size_kept : (k : ℕ) → k < h.count → length (image_in (h.left k)) ≡ length (image_in (h.lent k))
-  size_kept k less =
-      let m = h.device k in
-      size_same (h.access k) (h.before k m) (h.before (k + 1) m) (h.lent k) (h.left k) (h.answer k) (r.happens.does k less)
-
-  -- turn number k, if this is whether event k is the channel's
-  abbrev Taken : ℕ → Bool → Type 0
-  Taken k own = (turn : Turn)
-      × TakesTurn (if own then h.before k b else h.before (k + 1) b) (if own then h.lent k else h.left k) go.channel (if own then most_of (h.access k) else 0)
-      (h.before (k + 1) b) (h.left k) turn
-
-  taken : (k : ℕ) → k < h.count → Taken k (is_turn_now k)
-  taken k less = elim (cases_Bool (is_turn_now k)) [
-    | inl on ↦ subst (Taken k) (sym on) (own_turn go w n b h r k less on)
-    | inr off ↦ subst (Taken k) (sym off) (_, rests (h.before (k + 1) b) (h.left k) go.channel)
-  ]
-
-  abbrev Below : ℕ → Bool → Type 0
-  Below k own = work_below w (length (image_in (if own then h.lent k else h.left k))) ≡ true
-
-  stays_below : (k : ℕ) → k < h.count → Below k (is_turn_now k)
-  stays_below k less = elim (cases_Bool (is_turn_now k)) [
-    | inl on ↦ subst (Below k) (sym on) (c.below k less)
-    | inr off ↦ subst (Below k) (sym off) (ap (work_below w) (size_kept k less) ∙ c.below k less)
-  ]
-
-  abbrev GoesOn : ℕ → Bool → Type 0
-  GoesOn k own = slice_get (if own then h.before k b else h.before (k + 1) b).threads go.channel ≡ slice_get (h.before k b).threads go.channel
-
-  goes_on : (k : ℕ) → 0 < k → k < h.count → GoesOn k (is_turn_now k)
-  goes_on k past less = elim (cases_Bool (is_turn_now k)) [
-    | inl on ↦ subst (GoesOn k) (sym on) refl
-    | inr off ↦ subst (GoesOn k) (sym off) (thread_kept go w n b h r k past less off)
-  ]
-
-  abbrev Keeps : ℕ → ℕ → Bool → Type 0
-  Keeps k a own = slice_index (image_in (if own then h.lent k else h.left k)) a ≡ slice_index (image_in (h.lent k)) a
-
-  keeps : (k a : ℕ) → k < h.count → Uses w a → Keeps k a (is_turn_now k)
-  keeps k a less uses = elim (cases_Bool (is_turn_now k)) [
-    | inl on ↦ subst (Keeps k a) (sym on) refl
-    | inr off ↦ subst (Keeps k a) (sym off) (byte_kept k a less off uses)
-  ]
+  size_kept k less = grind (arith, size_same)
 
   abbrev First : Bool → Type 0
   First own = slice_get (if own then h.before 0 b else h.before 1 b).threads go.channel ≡ slice_get (started_by go).threads go.channel
@@ -265,10 +202,22 @@ module _ (go : Go) (w : Work) (n b : ℕ) (h : BoardEvents) (c : CopiesOn go w n
     may_go = r.may_go;
     explains = r.explains;
     begins = subst First (sym (not_own go w n b h r)) (ap (λ (v : DeviceValue). slice_get v.threads go.channel) (starts go w n b h r));
-    takes = taken;
-    below = stays_below;
-    goes_on = λ k less. goes_on (k + 1) (omega arith) less;
-    unchanged = λ k a less uses. keeps (k + 1) a less uses ∙ c.stays k a less uses;
+    takes = λ k less.
+        by_test (λ own. (turn : Turn)
+        × TakesTurn (if own then h.before k b else h.before (k + 1) b) (if own then h.lent k else h.left k) go.channel (if own then most_of (h.access k) else 0)
+        (h.before (k + 1) b) (h.left k) turn) (is_turn_now k) (own_turn go w n b h r k less) (λ _. (_, rests (h.before (k + 1) b) (h.left k) go.channel));
+    below = λ k less.
+        by_test (λ own. work_below w (length (image_in (if own then h.lent k else h.left k))) ≡ true) (is_turn_now k) (λ _. c.below k less)
+        (λ _. ap (work_below w) (size_kept k less) ∙ c.below k less);
+    goes_on = λ k less. (
+        let j = k + 1 in
+        by_test (λ own. slice_get (if own then h.before j b else h.before (j + 1) b).threads go.channel ≡ slice_get (h.before j b).threads go.channel)
+        (is_turn_now j) (λ _. refl) (thread_kept go w n b h r j (omega arith) less)
+        );
+    unchanged = λ k a less uses.
+        by_test (λ own. slice_index (image_in (if own then h.lent (k + 1) else h.left (k + 1))) a ≡ slice_index (image_in (h.lent (k + 1))) a)
+        (is_turn_now (k + 1)) (λ _. refl) (λ off. byte_kept (k + 1) a less off uses)
+        ∙ c.stays k a less uses;
   }
 
   abbrev Copied : ℕ → Bool → Type 0
@@ -276,9 +225,7 @@ module _ (go : Go) (w : Work) (n b : ℕ) (h : BoardEvents) (c : CopiesOn go w n
 
   -- event number 0 leaves the memory as it is
   from_first : (k : ℕ) → Copied k (is_turn_now 0) → IsWorked w (image_in (h.lent 0)) (image_in (h.left k))
-  from_first k worked =
-      let same = (first_does go w n b h r).2.pieces in
-      subst (λ (ps : List Piece). IsWorked w (image_of ps) (image_in (h.left k))) same (subst (Copied k) (not_own go w n b h r) worked)
+  from_first k worked = grind (arith, first_does, not_own)
 
 pub board_runs_copy : BoardRunsCopy
 board_runs_copy = runs_copy

@@ -1,15 +1,16 @@
 -- A call does nothing, or it takes steps; a turn has two calls.
-use Rattle.std.proofs.Common.{◌≡◌, ◌∙◌, ◌⊎◌, ℕ, ◌+◌, ◌^◌, ◌<◌, Bool, true, false, List, [], Option, Some, None, ap, refl, sym, subst, inl, inr, true≢false}
-use Rattle.std.specs.{Prelude.if◌then◌else◌, Prelude.nat_lt, Prelude.slice_get, Option.option_map_or}
+use Rattle.std.proofs.Common.{arith}
+use Rattle.std.proofs.Common.{◌≡◌, ◌∙◌, ◌⊎◌, ℕ, ◌+◌, ◌^◌, ◌<◌, Bool, true, false, List, [], Option, Some, None, ap, refl, sym, subst}
+use Rattle.std.specs.{Prelude.nat_lt, Prelude.slice_get, Option.option_map_or}
 use Rattle.std.proofs.lemmas.Bool.{and_parts}
 use Rattle.dma_mem.specs.Regions.{image_of, pieces_of}
 use Rattle.dma_mem.specs.{Flags.flags_of, Marking.MarkList, declared.regions.Region.Region, declared.segment.Segment.Segment}
 use Rattle.dma_chan.specs.Stepping.{Machine, TakesSteps, machine, signal_after, written_after}
-use Rattle.dma_chan.specs.Written.{adjoins, joined, range_at, store_ahead}
+use Rattle.dma_chan.specs.Written.{joined, range_at}
 use Rattle.dma_chan.specs.{Channel.ChannelValue, LentRegions.AreKept, LentRegions.with_gaps_of, declared.lent.Taken.Taken, declared.turn.ChanTurn.ChanTurn}
 use Rattle.dma_explain.proofs.InOrder.{marks_kept}
 use Rattle.dma_device.specs.CallSteps.{StepsThread, first_in, last_in, machine_after, marks_in, second_in, signal_in}
-use Rattle.dma_device.specs.Turns.{Outcome, Setup, TakesTurn, begins, called, called_if, follows, idle, is_beside, lines_differ, machine_in, outcome_of, raises}
+use Rattle.dma_device.specs.Turns.{Setup, TakesTurn, begins, called, called_if, follows, idle, is_beside, lines_differ, machine_in, outcome_of}
 use Rattle.dma_device.specs.Turns.{runs_at, setup_of, stepped, steps_in, visible_events, with_flags}
 use Rattle.dma_device.specs.{Device.DeviceValue, Device.with_thread, Thread.answered, Thread.runs, declared.device.turns.Called.Called}
 use Rattle.dma_device.specs.{declared.device.turns.Turn.Turn, declared.thread.Thread.Thread}
@@ -38,35 +39,23 @@ pub record Rests (made : Bool) (marks : MarkList) (n most : ℕ) (s : Setup) : T
 
 by_thread : (marks : MarkList) (n most : ℕ) (s : Setup) (o : Option Thread) → slice_get s.device.threads n ≡ o → Rests true marks n most s
     ⊎ StepsThread true n s
-by_thread marks n most s None found = inl (record {
-  off = λ x. (let bad = sym found ∙ x.found in cc);
-  is = ap (λ (o : Option Thread). called marks n most o s) found;
-})
-by_thread marks n most s (Some t) found = inr (record { on = refl; thread = t; found = found })
+by_thread marks n most s o h = grind (arith)
 
 pub call_is : (made : Bool) (marks : MarkList) (n most : ℕ) (s : Setup) → Rests made marks n most s ⊎ StepsThread made n s
-call_is true marks n most s = by_thread marks n most s (slice_get s.device.threads n) refl
-call_is false marks n most s = inl (record { off = λ x. true≢false (sym x.on); is = refl })
+call_is made marks n most s = grind (arith)
 
 pub call_acts : {made : Bool} {n : ℕ} {s : Setup} (marks : MarkList) (most : ℕ) (x : StepsThread made n s)
     → called_if made marks n most s ≡ stepped marks n most x.thread s
-call_acts {n = n} {s = s} marks most x =
-    ap (λ (b : Bool). if b then called marks n most (slice_get s.device.threads n) s else idle s) x.on
-    ∙ ap (λ (o : Option Thread). called marks n most o s) x.found
+call_acts {n = n} {s = s} marks most x = grind arith
 
 -- another thread of the same call is the same
 pub acts_alike : (P : Thread → Type 0) (n : ℕ) (made : Bool) (s : Setup) (x y : StepsThread made n s) → P x.thread → P y.thread
-acts_alike P n made s x y p =
-    let same : x.thread ≡ y.thread = let a = x.found in let b = y.found in cc in
-    subst P same p
+acts_alike P n made s x y p = grind arith
 
 -- what its steps keep, a call keeps
 pub call_keeps : (P : DeviceValue → Type 0) (made : Bool) (marks : MarkList) (n most : ℕ) (s : Setup) → P s.device
     → ((x : StepsThread made n s) → P (stepped marks n most x.thread s).left.device) → P (called_if made marks n most s).left.device
-call_keeps P made marks n most s h steps = elim (call_is made marks n most s) [
-  | inl rests ↦ subst (λ (o : Outcome). P o.left.device) (sym rests.is) h
-  | inr acts ↦ subst (λ (o : Outcome). P o.left.device) (sym (call_acts marks most acts)) (steps acts)
-]
+call_keeps P made marks n most s h steps = grind (arith, call_is, call_acts)
 
 -- a call leaves the configuration and INTEN as they are
 pub if_config : (made : Bool) (marks : MarkList) (n most : ℕ) (s : Setup) → (called_if made marks n most s).left.device.config ≡ s.device.config
@@ -89,8 +78,7 @@ pub stepped_is : (marks : MarkList) (n most : ℕ) (t : Thread) (s : Setup) (cha
       left = record { device = with_thread n after (with_flags flags s.device); image = image };
       called = record { written = range; signal = sent; taken = taken };
     }
-stepped_is marks n most t s channel image flags taken last sent range few x signal written =
-    simp (sym x.count, sym x.ends_at, sym x.answer, sym signal, sym written, number_is flags few)
+stepped_is marks n most t s channel image flags taken last sent range few x signal written = grind (arith, number_is)
 
 -- and so it has over regions
 pub called_is : (d e : DeviceValue) (regions left : List Region) (n most : ℕ) (t : Thread) (none : MarkList) (events after : List Bool) (channel : ChannelValue)
@@ -123,12 +111,10 @@ pub begins_runs : (d : DeviceValue) (n most : ℕ) → begins d n most ≡ true 
 begins_runs d n most on = (and_parts (nat_lt 0 most) (runs_at d n) on).1
 
 beside_runs : (range : Segment) (o : Option Thread) → is_beside range o ≡ true → option_map_or runs o false ≡ true
-beside_runs range None on = on
-beside_runs range (Some t) on = (and_parts (runs t) (adjoins range (store_ahead t.channel)) on).0
+beside_runs range o h = grind (arith, and_parts)
 
 pub follows_runs : (d : DeviceValue) (n : ℕ) (first : Called) → follows d n first ≡ true → runs_at d n ≡ true
-follows_runs d n first on =
-    beside_runs first.written (slice_get d.threads n) (and_parts (raises d first.signal) (is_beside first.written (slice_get d.threads n)) on).1
+follows_runs d n first on = grind (arith, beside_runs, and_parts)
 
 -- a turn has the outcome of its two calls
 pub turn_is : (d m e : DeviceValue) (regions lent left : List Region) (n most : ℕ) (first second : Called) (range : Segment) (changed : Bool) (taken : ℕ)

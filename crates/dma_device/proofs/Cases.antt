@@ -1,5 +1,5 @@
 -- What the debug instruction, a DMAGO and a write of a register leave, case by case.
-use Rattle.std.proofs.Common.{◌≡◌, ◌≢◌, ℕ, ◌+◌, ◌/◌, Bool, true, false, ◌&&◌, List, Option, Some, None, refl, bit_and, w32, arith}
+use Rattle.std.proofs.Common.{◌≡◌, ◌≢◌, ℕ, ◌+◌, ◌/◌, ◌%◌, Bool, true, false, ◌&&◌, List, Option, Some, None, inl, inr, refl, bit_and, w32, arith}
 use Rattle.std.specs.{Prelude.◌==◌, Prelude.if◌then◌else◌, Prelude.not, Prelude.slice_get, Int.bit_not}
 use Rattle.std.proofs.lemmas.Bool.{cond_both, eqb-false, eqb-true}
 use Rattle.dma_insn.specs.ControlWord.{field}
@@ -7,7 +7,7 @@ use Rattle.dma_mem.specs.Regions.{Piece}
 use Rattle.dma_device.specs.Device.{DeviceValue, all_events, by_manager, by_thread, debugged, go, is_event, manager_failed, program_at, signalled, with_thread}
 use Rattle.dma_device.specs.Device.{written}
 use Rattle.dma_device.specs.Thread.{dbg_instr, dmago_err, failed, is_faulting, is_stopped, killed, operand_invalid, started, undef_instr}
-use Rattle.dma_device.specs.{declared.device.Manager.Manager, declared.thread.Thread.Thread}
+use Rattle.dma_device.specs.{declared.device.Manager.Manager, declared.thread.Thread.Thread, Faults.TheChannel, Frame.IsDmago, Frame.Names}
 use Rattle.dma_device.specs.Offsets as offset
 
 module _ (P : DeviceValue → Type 0) where
@@ -61,7 +61,7 @@ module _ (P : DeviceValue → Type 0) where
     pub kills : (t : Thread) → let n = field 8 3 d.dbginst0 in field 0 1 d.dbginst0 ≡ 1 → slice_get d.threads n ≡ Some t → P (with_thread n (killed t) d)
     pub fails : (why : ℕ) (t : Thread) → let n = field 8 3 d.dbginst0 in field 0 1 d.dbginst0 ≡ 1 → slice_get d.threads n ≡ Some t
         → P (with_thread n (failed why t) d)
-    pub starts : (n : ℕ) (t : Thread) (nonsecure : Bool) → is_stopped t ≡ true → slice_get d.threads n ≡ Some t
+    pub starts : (n : ℕ) (t : Thread) (nonsecure : Bool) → Names d (TheChannel n) → is_stopped t ≡ true → slice_get d.threads n ≡ Some t
         → P (with_thread n (started nonsecure d.dbginst1 (program_at ram d.dbginst1) t) d)
 
   pub debug_cases : (ram : List Piece) (d : DeviceValue) → DebugCases ram d → P (debugged ram d)
@@ -86,11 +86,11 @@ module _ (P : DeviceValue → Type 0) where
         undefined = λ _ _ _. x.fails _ t on is;
       })
 
-      goes : field 0 1 d.dbginst0 ≢ 1 → (nonsecure : Bool) (o : Option Thread) → slice_get d.threads byte ≡ o → P (go ram nonsecure byte o d)
-      goes off nonsecure None is = x.manager off _
-      goes off nonsecure (Some t) is =
+      goes : field 0 1 d.dbginst0 ≢ 1 → IsDmago d byte → (nonsecure : Bool) (o : Option Thread) → slice_get d.threads byte ≡ o → P (go ram nonsecure byte o d)
+      goes off dmago nonsecure None is = x.manager off _
+      goes off dmago nonsecure (Some t) is =
           go_cases ram nonsecure byte t d
-          (record { refused = λ _. x.manager off _; starts = λ _ stopped. x.starts byte t nonsecure stopped is; busy = λ _ _. x.same })
+          (record { refused = λ _. x.manager off _; starts = λ _ stopped. x.starts byte t nonsecure (inr (off, dmago)) stopped is; busy = λ _ _. x.same })
 
       managed : field 0 1 d.dbginst0 ≢ 1 → P (by_manager ram opcode byte d)
       managed off = manager_cases ram opcode byte d (record {
@@ -98,8 +98,8 @@ module _ (P : DeviceValue → Type 0) where
         faulting = λ _ _. x.same;
         sev = λ _ _ _ event. x.sev byte event;
         no_event = λ _ _ _ _. x.manager off _;
-        secure = λ _ _ _ _. goes off false (slice_get d.threads byte) refl;
-        nonsecure = λ _ _ _ _ _. goes off true (slice_get d.threads byte) refl;
+        secure = λ _ _ _ is. goes off (inl (eqb-true opcode 0xA0 is), refl) false (slice_get d.threads byte) refl;
+        nonsecure = λ _ _ _ _ is. goes off (inr (eqb-true opcode 0xA2 is), refl) true (slice_get d.threads byte) refl;
         undefined = λ _ _ _ _ _. x.manager off _;
       })
 
@@ -107,7 +107,7 @@ module _ (P : DeviceValue → Type 0) where
   pub record WriteCases (ram : List Piece) (at value : ℕ) (d : DeviceValue) : Type 0 where
     pub inten : P (record d { inten = bit_and value (all_events d) })
     pub intclr : (at == offset.intclr) ≡ true → P (record d { interrupts = bit_and d.interrupts (bit_not w32 (bit_and value d.inten)) })
-    pub dbgcmd : (at == offset.dbgcmd) ≡ true → P (debugged ram d)
+    pub dbgcmd : (at == offset.dbgcmd) ≡ true → (value % 4 == 0) ≡ true → P (debugged ram d)
     pub dbginst0 : P (record d { dbginst0 = value })
     pub dbginst1 : P (record d { dbginst1 = value })
     pub other : P d

@@ -1,7 +1,7 @@
 -- A save in which one byte is another byte is the save of no device.
 use Rattle.std.proofs.Common.{◌≡◌, ◌≢◌, ◌∙◌, ℕ, zero, suc, ◌+◌, ◌%◌, ◌^◌, ◌<◌, ◌++◌, List, [], ◌∷◌, length, take, drop, get_or, set, ap, refl, sym, arith, inl}
 use Rattle.std.proofs.Common.{inr}
-use Rattle.std.specs.Int.{w32, from_le_bytes, to_le_bytes}
+use Rattle.std.specs.Int.{w32, to_le_bytes}
 use Rattle.std.proofs.lemmas.List.{drop-set-lt, drop_at, get_or-set_other, get_or-set_same, get_or-take, length-set, take-append-drop, take-set-le, take_at}
 use Rattle.std.proofs.{lemmas.Bool.cases_eq, lemmas.Bool.cases_lt, lemmas.Nat.from_le_bytes-to_le_bytes_4}
 use Rattle.dma_chan.specs.Saved.{adler, checksum}
@@ -84,9 +84,7 @@ damage_is_refused d e save k v is bytes within few other version (inl own) =
           let parts : parts_in 2 e ≡ set (parts_in 2 d) k v = sym two ∙ take_below save n k v below ∙ ap (λ (l : List ℕ). set l k v) one in
           let sums : to_le_bytes w32 (checksum (parts_in 2 e)) ≡ to_le_bytes w32 (checksum (parts_in 2 d)) = sym sum_two ∙ drop-set-lt n save k v below
           ∙ sum_one in
-          let same : checksum (parts_in 2 e) ≡ checksum (parts_in 2 d) =
-          sym (from_le_bytes-to_le_bytes_4 (checksum (parts_in 2 e)) (sum_few (parts_in 2 e))) ∙ ap (from_le_bytes w32) sums
-          ∙ from_le_bytes-to_le_bytes_4 (checksum (parts_in 2 d)) (sum_few (parts_in 2 d)) in
+          let same : checksum (parts_in 2 e) ≡ checksum (parts_in 2 d) = grind (arith, from_le_bytes-to_le_bytes_4, sum_few) in
           let item : get_or (parts_in 2 d) k 0 ≡ get_or save k 0 = ap (λ (l : List ℕ). get_or l k 0) (sym one) ∙ get_or-take n save k 0 below in
           one_differs (parts_in 2 d) k v below (omega (arith, item, bytes k)) few (λ e. other (sym item ∙ e)) (ap checksum (sym parts) ∙ same)
       | inr above ↦

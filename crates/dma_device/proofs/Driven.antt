@@ -1,6 +1,6 @@
 -- What a channel that a DMAGO started is after a turn: it executes a program that copies, or has ended it.
 use Rattle.std.proofs.Common.{◌≡◌, ◌≢◌, ◌∙◌, ◌⊎◌, ℕ, zero, suc, ◌+◌, ◌%◌, ◌^◌, ◌<◌, Bool, true, false, ◌&&◌, List, [], length, get_or, Option, Some, None, ap}
-use Rattle.std.proofs.Common.{refl, sym, subst, arith, inl, inr, true≢false}
+use Rattle.std.proofs.Common.{refl, sym, subst, arith, inl, inr}
 use Rattle.std.specs.Prelude.{is_some, not, slice_get}
 use Rattle.dma_mem.specs.{Marking.MarkList, Places.size_of, declared.regions.Region.Region}
 use Rattle.dma_chan.specs.{declared.exec.Registers.Registers, Channel.ChannelValue, Programs.ProgramValue, Stepping.Machine, Stepping.TakesSteps}
@@ -79,6 +79,61 @@ module _ (k : Call) (th : Thread) where
   pub channel_after : after_steps_of.channel ≡ to.channel
   channel_after = answer_channel k.before.device.config.events at_answer last_answer sets
 
+-- ---- a thread along calls
+
+-- the device has thread n, of which this is true with the memory
+pub record Holds (n : ℕ) (P : List ℕ → Thread → Type 0) (s : Setup) : Type 0 where
+  pub thread : Thread
+  pub is : slice_get s.device.threads n ≡ Some thread
+  pub holds : P s.image thread
+
+-- What a call makes of the thread: the call isn't made, or it steps the thread.
+pub record Makes (n : ℕ) (P Q : List ℕ → Thread → Type 0) (k : Call) : Type 0 where
+  pub rests : ¬ StepsThread k.made n k.before → (result_of n k).called ≡ nothing → (th : Thread) → slice_get k.before.device.threads n ≡ Some th
+      → P k.before.image th → Q k.before.image th
+  pub acts : k.made ≡ true → (th : Thread) → slice_get k.before.device.threads n ≡ Some th → sent_by n k ≡ sets k th → P k.before.image th
+      → Q (to k th).image (after_steps_of k th)
+
+after_call : (n : ℕ) (P Q : List ℕ → Thread → Type 0) (k : Call) → Makes n P Q k → Holds n P k.before → Holds n Q (result_of n k).left
+after_call n P Q k makes g = elim (call_is k.made k.marks n k.most k.before) [
+  | inl rests ↦
+      subst (λ (o : Outcome). Holds n Q o.left) (sym rests.is)
+      (record { thread = g.thread; is = g.is; holds = makes.rests rests.off (ap (λ (o : Outcome). o.called) rests.is) g.thread g.is g.holds })
+  | inr acts ↦
+      let th = g.thread in
+      let x : StepsThread k.made n k.before = record { on = acts.on; thread = th; found = g.is } in
+      let is = call_acts k.marks k.most x in
+      subst (λ (o : Outcome). Holds n Q o.left) (sym is)
+      (record {
+        thread = after_steps_of k th;
+        is = set_found k.before.device.threads n th (after_steps_of k th) g.is;
+        holds = makes.acts acts.on th g.is (ap (λ (o : Outcome). o.called.signal) is) g.holds;
+      })
+]
+
+pub after_turn : {n most : ℕ} {d e : DeviceValue} {regions left : List Region} {turn : Turn} (P Q R : List ℕ → Thread → Type 0)
+    → TakesTurn d regions n most e left turn → Makes n P Q (one_of d regions n most) → Makes n Q R (two_of d regions n most)
+    → Holds n P (setup_of d regions) → Holds n R (setup_of e left)
+after_turn {n} {most} {d} {e} {regions} {left} P Q R x one two g = grind (arith, turn_left, after_call)
+
+-- along the turns of a channel, between which nothing is done to its thread
+module _ (n : ℕ) (run : GivenTurns) (count : ℕ)
+    (goes_on : (k : ℕ) → k + 1 < count → slice_get (run.before (k + 1)).threads n ≡ slice_get (run.after k).threads n) (P : ℕ → List ℕ → Thread → Type 0) where
+  -- this is true before turn number k, and after it
+  abbrev pub HoldsBefore : ℕ → Type 0
+  HoldsBefore k = Holds n (P k) (setup_of (run.before k) (run.lent k))
+
+  abbrev pub HoldsAfter : ℕ → Type 0
+  HoldsAfter k = Holds n (P (suc k)) (setup_of (run.after k) (run.left k))
+
+  pub before_turn : HoldsBefore 0 → ((k : ℕ) → k < count → HoldsBefore k → HoldsAfter k)
+      → ((k : ℕ) (th : Thread) → k + 1 < count → P (suc k) (image_in (run.left k)) th → P (suc k) (image_in (run.lent (k + 1))) th) → (k : ℕ) → k < count
+      → HoldsBefore k
+  before_turn first turn stays zero less = first
+  before_turn first turn stays (suc k) less = grind (arith, before_turn first turn stays k (omega (arith, less)))
+
+-- ---- a thread whose program copies
+
 module _ (c : Copying) where
   abbrev pub RunsOn : Machine → Type 0
   RunsOn u = Runs c.start c.program c.work c.count c.first u
@@ -100,16 +155,9 @@ module _ (c : Copying) where
   Stands O E image th = (Over image th × O) ⊎ (Going image th × E th)
 
   leads_runs : (last : Option ChanTurn) (w : Machine) → Leads c.start c.program c.work c.count c.first last w → last ≢ Some Ended → RunsOn w
-  leads_runs (Some Ended) w l goes = absurd (goes refl)
-  leads_runs last w l goes = l
+  leads_runs last w h h2 = grind (arith)
 
   module _ (n : ℕ) where
-    -- the device has thread n, in one of these states
-    pub record Has (O : Type 0) (E : Thread → Type 0) (s : Setup) : Type 0 where
-      pub thread : Thread
-      pub is : slice_get s.device.threads n ≡ Some thread
-      pub stands : Stands O E s.image thread
-
     -- Before a call O is known if the program has ended, and E if it goes on; after the call P and F. The call isn't
     -- made (`rests_over`, `rests`), or it steps the thread, whose program ends or goes on (`ends`, `goes`).
     pub record Steps (O : Type 0) (E : Thread → Type 0) (P : Type 0) (F : Thread → Type 0) (k : Call) : Type 0 where
@@ -123,164 +171,153 @@ module _ (c : Copying) where
     no_program : (d : DeviceValue) (th : Thread) → slice_get d.threads n ≡ Some th → th.channel.program ≡ None → runs_at d n ≡ false
     no_program d th is gone = runs_found d n th is ∙ ap (λ (p : Option ProgramValue). is_some p && not (is_faulting th)) gone
 
-    stands_after : (O : Type 0) (E : Thread → Type 0) (P : Type 0) (F : Thread → Type 0) (k : Call) (th : Thread) → k.made ≡ true
-        → slice_get k.before.device.threads n ≡ Some th → Going k.before.image th → E th → sent_by n k ≡ sets k th → Steps O E P F k
-        → Stands P F (to k th).image (after_steps_of k th)
-    stands_after O E P F k th made found g e sent steps =
-        let is = channel_after k th in
-        let events = k.before.device.config.events in
-        let leads = call c.start c.program c.work c.count k.marks c.first c.explains c.fits (from k th) (to k th) k.most (count_in k th) (last_answer k th)
-        g.runs (steps_of k th) in
-        elim (is_ended (last_answer k th)) [
-          | inl ended ↦
-              let done = subst (λ (o : Option ChanTurn). Leads c.start c.program c.work c.count c.first o (to k th)) ended leads in
-              inl (
-                record {
-                  stopped = subst (λ (l : Option ChanTurn). is_stopped (answer events (at_answer k th) l (sets k th)) ≡ true) (sym ended) refl;
-                  gone = ap (λ (v : ChannelValue). v.program) is ∙ done.dropped;
-                  done = done.all;
-                  stored = ap (λ (v : ChannelValue). v.stored) is ∙ done.stored;
-                },
-                steps.ends th g e sent ended,
-              )
-          | inr goes ↦
-              inr (
-                record {
-                  runs = subst (λ (v : ChannelValue). RunsOn (machine v (to k th).image [])) (sym is) (leads_runs (last_answer k th) (to k th) leads goes);
-                  busy = answer_busy events (at_answer k th) (last_answer k th) (sets k th) goes;
-                },
-                steps.goes made th found g e sent goes,
-              )
-        ]
+    module _ (O : Type 0) (E : Thread → Type 0) (P : Type 0) (F : Thread → Type 0) (k : Call) (steps : Steps O E P F k) where
+      stands_after : (th : Thread) → k.made ≡ true → slice_get k.before.device.threads n ≡ Some th → Going k.before.image th → E th → sent_by n k ≡ sets k th
+          → Stands P F (to k th).image (after_steps_of k th)
+      stands_after th made found g e sent =
+          let is = channel_after k th in
+          let events = k.before.device.config.events in
+          let leads = call c.start c.program c.work c.count k.marks c.first c.explains c.fits (from k th) (to k th) k.most (count_in k th) (last_answer k th)
+          g.runs (steps_of k th) in
+          elim (is_ended (last_answer k th)) [
+            | inl ended ↦
+                let done = subst (λ (o : Option ChanTurn). Leads c.start c.program c.work c.count c.first o (to k th)) ended leads in
+                inl (
+                  record {
+                    stopped = subst (λ (l : Option ChanTurn). is_stopped (answer events (at_answer k th) l (sets k th)) ≡ true) (sym ended) refl;
+                    gone = ap (λ (v : ChannelValue). v.program) is ∙ done.dropped;
+                    done = done.all;
+                    stored = ap (λ (v : ChannelValue). v.stored) is ∙ done.stored;
+                  },
+                  steps.ends th g e sent ended,
+                )
+            | inr goes ↦
+                inr (
+                  record {
+                    runs = subst (λ (v : ChannelValue). RunsOn (machine v (to k th).image [])) (sym is) (leads_runs (last_answer k th) (to k th) leads goes);
+                    busy = answer_busy events (at_answer k th) (last_answer k th) (sets k th) goes;
+                  },
+                  steps.goes made th found g e sent goes,
+                )
+          ]
 
-    after_call : (O : Type 0) (E : Thread → Type 0) (P : Type 0) (F : Thread → Type 0) (k : Call) → (k.made ≡ true → runs_at k.before.device n ≡ true)
-        → Steps O E P F k → Has O E k.before → Has P F (result_of n k).left
-    after_call O E P F k on steps g = elim (call_is k.made k.marks n k.most k.before) [
-      | inl rests ↦
-          let none = ap (λ (o : Outcome). o.called) rests.is in
-          subst (λ (o : Outcome). Has P F o.left) (sym rests.is)
-          (record {
-            thread = g.thread;
-            is = g.is;
-            stands = elim g.stands [
-              | inl over ↦ inl (over.0, steps.rests_over none over.1)
-              | inr going ↦ inr (going.0, steps.rests rests.off none g.thread g.is going.0 going.1)
-            ];
-          })
-      | inr acts ↦
-          let th = acts.thread in
-          let same : th ≡ g.thread = let here = acts.found in let there = g.is in cc in
-          let is = call_acts k.marks k.most acts in
-          subst (λ (o : Outcome). Has P F o.left) (sym is)
-          (record {
-            thread = after_steps_of k th;
-            is = set_found k.before.device.threads n th (after_steps_of k th) acts.found;
-            stands = elim (subst (Stands O E k.before.image) (sym same) g.stands) [
-              | inl over ↦ absurd (true≢false (sym (on acts.on) ∙ no_program k.before.device th acts.found over.0.gone))
-              | inr going ↦ stands_after O E P F k th acts.on acts.found going.0 going.1 (ap (λ (o : Outcome). o.called.signal) is) steps
-            ];
-          })
-    ]
-
-    module _ (d : DeviceValue) (regions : List Region) (most : ℕ) (e : DeviceValue) (left : List Region) (turn : Turn)
-        (x : TakesTurn d regions n most e left turn) where
-      abbrev one : Call
-      one = one_of d regions n most
-
-      abbrev two : Call
-      two = two_of d regions n most
-
-      pub after_turn : (O : Type 0) (E : Thread → Type 0) (P : Type 0) (F : Thread → Type 0) (R : Type 0) (G : Thread → Type 0) → Steps O E P F one
-          → Steps P F R G two → Has O E (setup_of d regions) → Has R G (setup_of e left)
-      after_turn O E P F R G steps_one steps_two g =
-          let first = first_in d regions n most in
-          let m = first.left.device in
-          subst (Has R G) (turn_left x)
-          (after_call P F R G two (follows_runs m n first.called) steps_two
-          (after_call O E P F one (begins_runs d n most) steps_one g))
+      makes : (k.made ≡ true → runs_at k.before.device n ≡ true) → Makes n (Stands O E) (Stands P F) k
+      makes on = grind (arith, stands_after)
 
 -- ---- along the turns
 
-module _ (go : Go) (work : Work) (count : ℕ) (run : GivenTurns) (h : RunsCopy go work count run) (some : 0 < run.count) where
+-- turns of a channel, at least one, which a DMAGO started with a program that copies
+pub record Drive : Type 0 where
+  pub go : Go
+  pub work : Work
+  pub count : ℕ
+  pub run : GivenTurns
+  pub copies : RunsCopy go work count run
+  pub some : 0 < run.count
+
+pub above : (k n : ℕ) → k < n → 0 < n
+above k n less = omega (arith, less)
+
+abbrev pub drive : (go : Go) (work : Work) (count : ℕ) (run : GivenTurns) → RunsCopy go work count run → (k : ℕ) → k < run.count → Drive
+drive go work count run h k less = record { go = go; work = work; count = count; run = run; copies = h; some = above k run.count less }
+
+module _ (x : Drive) where
   abbrev pub copying : Copying
   copying = record {
-    start = start_of go;
-    program = go.program;
-    work = work;
-    count = count;
-    first = image_in (run.lent 0);
-    explains = h.explains;
-    fits = λ a i. uses_below work (length (image_in (run.lent 0))) a (h.below 0 some) i;
+    start = start_of x.go;
+    program = x.go.program;
+    work = x.work;
+    count = x.count;
+    first = image_in (x.run.lent 0);
+    explains = x.copies.explains;
+    fits = λ a i. uses_below x.work (length (image_in (x.run.lent 0))) a (x.copies.below 0 x.some) i;
   }
 
   abbrev pub new : Thread
-  new = started go.nonsecure go.addr (program_at go.ram go.addr) (get_or go.device.threads go.channel (reset_thread go.device.config.bus))
+  new = started x.go.nonsecure x.go.addr (program_at x.go.ram x.go.addr) (get_or x.go.device.threads x.go.channel (reset_thread x.go.device.config.bus))
 
-  -- thread n before and after turn number j
+  -- the thread before and after turn number j
   abbrev pub Before : (O : Type 0) (E : Thread → Type 0) → ℕ → Type 0
-  Before O E j = Has copying go.channel O E (setup_of (run.before j) (run.lent j))
+  Before O E j = Holds x.go.channel (Stands copying O E) (setup_of (x.run.before j) (x.run.lent j))
 
   abbrev pub After : (O : Type 0) (E : Thread → Type 0) → ℕ → Type 0
-  After O E j = Has copying go.channel O E (setup_of (run.after j) (run.left j))
+  After O E j = Holds x.go.channel (Stands copying O E) (setup_of (x.run.after j) (x.run.left j))
+
+  -- the two calls of turn number j
+  abbrev pub one_at : ℕ → Call
+  one_at j = one_of (x.run.before j) (x.run.lent j) x.go.channel (x.run.most j)
+
+  abbrev pub two_at : ℕ → Call
+  two_at j = two_of (x.run.before j) (x.run.lent j) x.go.channel (x.run.most j)
+
+  pub turned : {O : Type 0} {E : Thread → Type 0} {P : Type 0} {F : Thread → Type 0} {R : Type 0} {G : Thread → Type 0} (j : ℕ) → j < x.run.count
+      → Steps copying x.go.channel O E P F (one_at j) → Steps copying x.go.channel P F R G (two_at j) → Before O E j → After R G j
+  turned {O} {E} {P} {F} {R} {G} j less one two =
+      let n = x.go.channel in
+      let first = first_in (x.run.before j) (x.run.lent j) n (x.run.most j) in
+      after_turn (Stands copying O E) (Stands copying P F) (Stands copying R G) (x.copies.takes j less).1
+      (makes copying n O E P F (one_at j) one (begins_runs (x.run.before j) n (x.run.most j)))
+      (makes copying n P F R G (two_at j) two (follows_runs first.left.device n first.called))
+
+  -- what is known after a turn may be replaced by what follows from it
+  pub weaker : {O : Type 0} {E : Thread → Type 0} {P : Type 0} {F : Thread → Type 0} (j : ℕ) → (O → P)
+      → ((th : Thread) → Going copying (image_in (x.run.left j)) th → E th → F th) → After O E j → After P F j
+  weaker j over going g = grind arith
 
   at_start : (O : Type 0) (E : Thread → Type 0) → E new → Before O E 0
   at_start O E known = record {
     thread = new;
-    is = h.begins ∙ dmago_starts go h.may_go;
-    stands = inr (
+    is = x.copies.begins ∙ dmago_starts x.go x.copies.may_go;
+    holds = inr (
       record {
-        runs = at_first (start_of go) go.program work count (image_in (run.lent 0)) (machine new.channel (image_in (run.lent 0)) []) copying.fits
-            (record { bytes = program_at go.ram go.addr; cost = None }, program_is_read go.ram go.addr go.program h.in_ram, refl) refl;
+        runs = at_first (start_of x.go) x.go.program x.work x.count copying.first (machine new.channel copying.first []) copying.fits
+            (record { bytes = program_at x.go.ram x.go.addr; cost = None }, program_is_read x.go.ram x.go.addr x.go.program x.copies.in_ram, refl) refl;
         busy = refl;
       },
       known,
     );
   }
 
-  -- others write elsewhere, and leave the thread alone
-  stays : (O : Type 0) (E : Thread → Type 0) (j : ℕ) → j + 1 < run.count → After O E j → Before O E (j + 1)
-  stays O E j next g =
-      let image = image_in (run.left j) in
-      let other = image_in (run.lent (j + 1)) in
-      record {
-        thread = g.thread;
-        is = h.goes_on j next ∙ g.is;
-        stands = elim g.stands [
-          | inl over ↦
-              inl (
-                record {
-                  stopped = over.0.stopped;
-                  gone = over.0.gone;
-                  done = record {
-                    copied = λ a i. h.unchanged j a next (inl i) ∙ over.0.done.copied a i;
-                    zeros = λ a i. h.unchanged j a next (inr i) ∙ over.0.done.zeros a i;
-                  };
-                  stored = over.0.stored;
-                },
-                over.1,
-              )
-          | inr going ↦
-              inr (
-                record {
-                  runs = survived (start_of go) go.program work count copying.first (machine g.thread.channel image []) (machine g.thread.channel other [])
-                      going.0.runs refl (λ a i. h.unchanged j a next i) (λ a i. uses_below work (length other) a (h.below (j + 1) next) i);
-                  busy = going.0.busy;
-                },
-                going.1,
-              )
-        ];
-      }
+  -- others write elsewhere
+  stays : (O : Type 0) (E : Thread → Type 0) (j : ℕ) (th : Thread) → j + 1 < x.run.count → Stands copying O E (image_in (x.run.left j)) th
+      → Stands copying O E (image_in (x.run.lent (j + 1))) th
+  stays O E j th next stands =
+      let h = x.copies in
+      let image = image_in (x.run.left j) in
+      let other = image_in (x.run.lent (j + 1)) in
+      elim stands [
+        | inl over ↦
+            inl (
+              record {
+                stopped = over.0.stopped;
+                gone = over.0.gone;
+                done = record {
+                  copied = λ a i. h.unchanged j a next (inl i) ∙ over.0.done.copied a i;
+                  zeros = λ a i. h.unchanged j a next (inr i) ∙ over.0.done.zeros a i;
+                };
+                stored = over.0.stored;
+              },
+              over.1,
+            )
+        | inr going ↦
+            inr (
+              record {
+                runs = survived (start_of x.go) x.go.program x.work x.count copying.first (machine th.channel image []) (machine th.channel other [])
+                    going.0.runs refl (λ a i. h.unchanged j a next i) (λ a i. uses_below x.work (length other) a (h.below (j + 1) next) i);
+                busy = going.0.busy;
+              },
+              going.1,
+            )
+      ]
 
-  -- what each turn keeps is known before each turn
-  pub before_each : (O : ℕ → Type 0) (E : ℕ → Thread → Type 0) → E 0 new → ((j : ℕ) → j < run.count → Before (O j) (E j) j → After (O (suc j)) (E (suc j)) j)
-      → (j : ℕ) → j < run.count → Before (O j) (E j) j
-  before_each O E known turn zero less = at_start (O 0) (E 0) known
-  before_each O E known turn (suc j) less =
-      let e : j + 1 ≡ suc j = omega arith in
-      let after = turn j (omega (arith, less)) (before_each O E known turn j (omega (arith, less))) in
-      subst (Before (O (suc j)) (E (suc j))) e (stays (O (suc j)) (E (suc j)) j (omega (arith, less)) after)
+  module _ (O : ℕ → Type 0) (E : ℕ → Thread → Type 0) (known : E 0 new)
+      (turn : (j : ℕ) → j < x.run.count → Before (O j) (E j) j → After (O (suc j)) (E (suc j)) j) where
+    -- what each turn keeps is known before each turn
+    pub before_each : (j : ℕ) → j < x.run.count → Before (O j) (E j) j
+    before_each =
+        before_turn x.go.channel x.run x.run.count x.copies.goes_on (λ k. Stands copying (O k) (E k)) (at_start (O 0) (E 0) known) turn
+        (λ k. stays (O (suc k)) (E (suc k)) k)
 
-  -- and after each turn
-  pub along : (O : ℕ → Type 0) (E : ℕ → Thread → Type 0) → E 0 new → ((j : ℕ) → j < run.count → Before (O j) (E j) j → After (O (suc j)) (E (suc j)) j)
-      → (j : ℕ) → j < run.count → After (O (suc j)) (E (suc j)) j
-  along O E known turn j less = turn j less (before_each O E known turn j less)
+    -- and after each turn
+    pub along : (j : ℕ) → j < x.run.count → After (O (suc j)) (E (suc j)) j
+    along j less = turn j less (before_each j less)

@@ -1,5 +1,5 @@
 -- What sets and takes events.
-use Rattle.std.proofs.Common.{◌≡◌, ◌∙◌, ◌⊎◌, ℕ, zero, suc, ◌+◌, ◌-◌, ◌%◌, ◌^◌, ◌<◌, Bool, true, false, List, get_or, Option, Some, None, ap, sym, subst, arith}
+use Rattle.std.proofs.Common.{◌≡◌, ◌∙◌, ◌⊎◌, ℕ, zero, suc, ◌+◌, ◌-◌, ◌%◌, ◌^◌, ◌<◌, Bool, true, false, List, get_or, Option, Some, None, ap, refl, sym, subst, arith}
 use Rattle.std.proofs.Common.{inl, inr, true≢false}
 use Rattle.std.specs.{Prelude.◌↔◌, Prelude.max, Prelude.min, Prelude.slice_get, Int.bit_at}
 use Rattle.std.proofs.lemmas.Bool.{cases_Bool, cases_eq, eq-eqb, ne_eqb}
@@ -15,9 +15,9 @@ use Rattle.dma_device.specs.CallSteps.{StepsThread, first_in, last_in, marks_in,
 use Rattle.dma_device.specs.Device.{DeviceValue, with_thread, written}
 use Rattle.dma_device.specs.Events.{CallTakes, Ends, EventsAreExact, IsSet, Sets, TakenWasSet, TurnTakes, WaitsForUnset}
 use Rattle.dma_device.specs.Interrupts.{HasLine, IsHigh, TurnSignals}
-use Rattle.dma_device.specs.Turns.{Outcome, Setup, TakesTurn, begins, called_if, follows, machine_in, number_of, setup_of, steps_in, visible_events, with_flags}
+use Rattle.dma_device.specs.Turns.{Outcome, Setup, TakesTurn, begins, called_if, follows, machine_in, number_of, setup_of, stepped, steps_in, visible_events, with_flags}
 use Rattle.dma_device.specs.{declared.device.turns.Turn.Turn, declared.thread.Status.TheVariants.WaitingForEvent, declared.thread.Thread.Thread, Thread.answer}
-use Rattle.dma_device.proofs.Calls.{acts_alike, call_acts, call_is, if_config, if_inten, machine_left, takes, thread_left, turn_device}
+use Rattle.dma_device.proofs.Calls.{acts_alike, call_acts, call_is, call_keeps, if_config, if_inten, machine_left, takes, thread_left, turn_device}
 use Rattle.dma_device.proofs.FlagSteps.{Is, IsClear, Passes, clear_since, passed, waits_at}
 use Rattle.dma_device.proofs.Interrupts.{Exact, all_have, restored_bit, exact_if_same, flag_bit, hidden, seen_bit, NonePass, below, flag_left, flag_sets}
 use Rattle.dma_device.proofs.Interrupts.{flags_left}
@@ -128,41 +128,35 @@ found_status : (d e : DeviceValue) (n k : ℕ) (old new t : Thread) → slice_ge
     → slice_get e.threads n ≡ Some t → t.status ≡ WaitingForEvent k → new.status ≡ WaitingForEvent k
 found_status d e n k old new t found is there waits = grind (arith, set_found)
 
-if_unset : (made : Bool) (marks : MarkList) (n most : ℕ) (s : Setup) (k : ℕ) (t : Thread) → HasLine s.device k → StepsThread made n s → let e =
-    (called_if made marks n most s).left.device in slice_get e.threads n ≡ Some t → t.status ≡ WaitingForEvent k → IsSet e k → IsHigh s.device.inten k
-if_unset made marks n most s k t has x found waits high =
-    let d = s.device in
-    let is = call_acts marks most x in
-    let after = thread_left marks most x.thread s in
+-- if thread n waits for event k, then the event isn't set, or INTEN makes it an interrupt
+abbrev Unset : ℕ → ℕ → DeviceValue → Type 0
+Unset n k d = (t : Thread) → slice_get d.threads n ≡ Some t → t.status ≡ WaitingForEvent k → IsSet d k → IsHigh d.inten k
+
+step_unset : (marks : MarkList) (n most : ℕ) (s : Setup) (k : ℕ) (made : Bool) → HasLine s.device k → (x : StepsThread made n s)
+    → Unset n k (stepped marks n most x.thread s).left.device
+step_unset marks n most s k made has x t found waits high =
     call_unset marks most x.thread s k has
-    (found_status d (called_if made marks n most s).left.device n k x.thread after t x.found (ap (λ (o : Outcome). o.left.device.threads) is) found waits)
-    (sym (ap (λ (o : Outcome). bit_at o.left.device.events k) is) ∙ high)
+    (found_status s.device (stepped marks n most x.thread s).left.device n k x.thread (thread_left marks most x.thread s) t x.found refl found waits) high
 
 pub waits_for_unset : WaitsForUnset
 waits_for_unset d e regions left n most k turn t x has starts found waits high =
     let marks = marks_in regions in
     let s = setup_of d regions in
     let first = first_in d regions n most in
-    let m = first.left.device in
-    let goes = follows m n first.called in
-    let second = second_in d regions n most in
-    let one : m.inten ≡ d.inten = if_inten (begins d n most) marks n most s in
-    let two : e.inten ≡ m.inten = ap (λ (v : DeviceValue). v.inten) (sym (turn_device x)) ∙ if_inten goes marks n 1 first.left in
-    let there = has_kept k d m (if_config (begins d n most) marks n most s) one has in
-    let found_second : slice_get second.left.device.threads n ≡ Some t = ap (λ (v : DeviceValue). slice_get v.threads n) (turn_device x) ∙ found in
-    let high_second : IsSet second.left.device k = subst (λ (v : DeviceValue). IsSet v k) (sym (turn_device x)) high in
-    elim (call_is goes marks n 1 first.left) [
-      | inr acts ↦ subst (λ (i : ℕ). IsHigh i k) (sym two) (if_unset goes marks n 1 first.left k t there acts found_second waits high_second)
-      | inl rests ↦
-          let found_first : slice_get m.threads n ≡ Some t = sym (ap (λ (o : Outcome). slice_get o.left.device.threads n) rests.is) ∙ found_second in
-          let high_first : IsSet m k = subst (λ (o : Outcome). IsSet o.left.device k) rests.is high_second in
-          elim (call_is (begins d n most) marks n most s) [
-            | inr acts ↦ subst (λ (i : ℕ). IsHigh i k) (sym (two ∙ one)) (if_unset (begins d n most) marks n most s k t has acts found_first waits high_first)
-            | inl none ↦
-                let same : slice_get d.threads n ≡ Some t = sym (ap (λ (o : Outcome). slice_get o.left.device.threads n) none.is) ∙ found_first in
-                absurd (none.off (record { on = starts; thread = t; found = same }))
-          ]
-    ]
+    let made = begins d n most in
+    let there = has_kept k d first.left.device (if_config made marks n most s) (if_inten made marks n most s) has in
+    let one : Unset n k first.left.device = elim (call_is made marks n most s) [
+      | inr acts ↦ subst (λ (o : Outcome). Unset n k o.left.device) (sym (call_acts marks most acts)) (step_unset marks n most s k made has acts)
+      | inl rests ↦ λ t found waits high.
+          absurd (rests.off (record {
+            on = starts;
+            thread = t;
+            found = sym (ap (λ (o : Outcome). slice_get o.left.device.threads n) rests.is) ∙ found;
+          }))
+    ] in
+    let goes = follows first.left.device n first.called in
+    (subst (Unset n k) (turn_device x)
+    (call_keeps (Unset n k) goes marks n 1 first.left one (λ acts. step_unset marks n 1 first.left k goes there acts))) t found waits high
 
 -- after a call event k is set exactly if the call set it, or if it was set and the call doesn't take it
 abbrev SetsBy : MarkList → ℕ → ℕ → Bool → ℕ → Setup → Outcome → Type 0
@@ -249,22 +243,15 @@ write_exact k at value d regions has = grind (arith, dbgcmd_raises false d (piec
 
 turn_exact : (k n most : ℕ) (d e : DeviceValue) (regions left : List Region) (turn : Turn) → HasLine d k → TakesTurn d regions n most e left turn
     → Exact k d.events e.events (Sets k (Turns n most) d regions) (Ends k (Turns n most) d regions)
-turn_exact k n most d e regions left turn has x =
-    subst (λ (v : DeviceValue). Exact k d.events v.events (Sets k (Turns n most) d regions) (Ends k (Turns n most) d regions)) (turn_device x)
-    (turn_sets d regions n most k has)
+turn_exact k n most d e regions left turn has x = grind (arith, turn_device, turn_sets)
 
 access_exact : (k : ℕ) (a : Access) (d e : DeviceValue) (regions left : List Region) (answer : Answer) → HasLine d k → Does a d regions answer e left
     → Exact k d.events e.events (Sets k a d regions) (Ends k a d regions)
-access_exact k (Writes at value) d e regions left answer has x =
-    subst (λ (v : DeviceValue). Exact k d.events v.events (Sets k (Writes at value) d regions) (Ends k (Writes at value) d regions)) (sym x.1)
-    (write_exact k at value d regions has)
+access_exact k (Writes at value) d e regions left answer has x = grind (arith, write_exact)
 access_exact k (Turns n most) d e regions left answer has x = turn_exact k n most d e regions left x.0 has x.1.1
-access_exact k Resets d e regions left answer has x =
-    let low : ¬ IsSet e k = (λ high. let zero_bit = ap (λ (v : DeviceValue). bit_at v.events k) x.1 ∙ bit_at-zero k in omega (arith, zero_bit, high)) in
-    ((λ high. absurd (low high)), (λ why. elim why [ inl up ↦ absurd (up.1) | inr stays ↦ absurd (stays.1 tt) ]))
+access_exact k Resets d e regions left answer has x = grind (arith, bit_at-zero)
 access_exact k (Restores saved) d e regions left answer has x = restored_bit k saved.events d.events e.events (ap (λ (v : DeviceValue). v.events) x.1)
-access_exact k a d e regions left answer has x =
-    exact_if_same k d.events e.events (Sets k a d regions) ⊥ (ap (λ (v : DeviceValue). v.events) x.1) (λ up. up.1) (λ down. down)
+access_exact k a d e regions left answer has x = grind (arith, exact_if_same)
 
 -- ---- accesses in a row
 
@@ -275,5 +262,4 @@ events_are_exact access answer before lent left count k n happen has within =
     (all_have access answer before lent left count k happen has j (omega arith)) (happen j less)) n within
 
 pub taken_was_set : TakenWasSet
-taken_was_set (Turns n most) d e regions left answer k x has w = turn_takes_set d regions n most k has w
-taken_was_set a d e regions left answer k x has w = absurd w
+taken_was_set = grind (arith, turn_takes_set)

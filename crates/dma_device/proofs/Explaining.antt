@@ -1,11 +1,11 @@
 -- A channel's turns stay in the work that explains its program.
-use Rattle.std.proofs.Common.{◌≡◌, ◌∙◌, ◌⊎◌, ℕ, suc, ◌+◌, ◌-◌, ◌%◌, ◌/◌, ◌^◌, ◌<◌, Bool, true, List, [], append-nil, Option, Some, None, ap, refl, sym, subst}
+use Rattle.std.proofs.Common.{◌≡◌, ◌∙◌, ◌⊎◌, ℕ, suc, ◌+◌, ◌-◌, ◌/◌, ◌<◌, Bool, true, List, [], append-nil, Option, Some, None, ap, refl, sym, subst}
 use Rattle.std.proofs.Common.{arith, inl, inr}
 use Rattle.std.specs.{Prelude.IfSome, Prelude.IsSomeAnd, Prelude.replicate, Prelude.slice_get, List.Contains, Option.option_and_then, Option.option_map}
 use Rattle.std.proofs.lemmas.Bool.{cases_eq}
 use Rattle.dma_insn.specs.ControlWord.{field}
 use Rattle.dma_mem.specs.{Marking.MarkList, Places.sources, Regions.Piece, Regions.pieces_of, declared.regions.Region.Region}
-use Rattle.dma_chan.specs.Channel.{ChannelValue, bytes_of_program, code_of}
+use Rattle.dma_chan.specs.Channel.{ChannelValue, code_of}
 use Rattle.dma_chan.specs.{declared.exec.Registers.Registers, declared.bus.BusWidth.BusWidth, Programs.ProgramValue, Stepping.after_steps}
 use Rattle.dma_explain.specs.{declared.explain.Explained.Explained, Changes.Holds}
 use Rattle.dma_explain.proofs.CallStays.{call_stays_in, load_executes, many_in, next_inside, nexts}
@@ -15,7 +15,7 @@ use Rattle.dma_device.specs.Accesses.{Access, Answer, Does, Happen, Resets, Rest
 use Rattle.dma_device.specs.Explaining.{CallReads, GivesNone, HasWork, IsUnderway, OnlyDmagoGives, RestoreKeepsWork, StaysIn, TurnStaysInWork, TurnsStayIn}
 use Rattle.dma_device.specs.Explaining.{UnderwayHasWork, WorkStays, channel_of, program_of}
 use Rattle.dma_device.specs.Turns.{Setup, TakesTurn, begins, called_if, follows, machine_in, runs_at, setup_of, steps_in}
-use Rattle.dma_device.specs.{CallSteps.StepsThread, CallSteps.first_in, CallSteps.last_in, CallSteps.marks_in, CallSteps.signal_in, Device.DeviceValue}
+use Rattle.dma_device.specs.{CallSteps.StepsThread, CallSteps.first_in, CallSteps.last_in, CallSteps.marks_in, Device.DeviceValue}
 use Rattle.dma_device.specs.{Device.is_interrupt, Device.program_at, Device.signalled, Device.with_thread, Device.written, Thread.failed, Thread.killed}
 use Rattle.dma_device.specs.{Thread.reset_thread, Thread.started, Writes.CallWrote, declared.device.turns.Turn.Turn, declared.thread.Thread.Thread}
 use Rattle.dma_device.proofs.Calls.{begins_runs, call_keeps, follows_runs, machine_left, takes, thread_left, turn_device, turn_keeps}
@@ -61,38 +61,31 @@ module _ (work : Work) (n : ℕ) where
       let w = runs_copy d th acts.found (on acts.on) g in
       let stays = call_stays_in w.0 w.1 work w.2 marks (machine_in s th) most (steps_in marks most th s) (last_in marks most th s) to w.3 w.4
       (takes marks most th s) in
-      let same : (thread_left marks most th s).channel ≡ to.channel =
-      answer_channel d.config.events (record th { channel = to.channel; pc = (th.base + to.channel.registers.pc) % 2 ^ 32 }) (last_in marks most th s)
-      (signal_in marks most th s) in
+      let same : (thread_left marks most th s).channel ≡ to.channel = grind (arith, answer_channel) in
       let holds : Holds (Some work) to.channel = elim stays.channel [ inl v ↦ inr (w.0, w.1, w.2, w.3, v) | inr none ↦ inl none ] in
       subst (λ (o : Option Thread). InCopy (channel_if o)) (sym (set_found d.threads n th (thread_left marks most th s) acts.found))
       (subst (Holds (Some work)) (sym same) holds))
 
-  step_at : (marks : MarkList) (made : Bool) (most : ℕ) (s : Setup) → (made ≡ true → runs_at s.device n ≡ true) → HasCopy s.device
-      → (x : StepsThread made n s) (j : ℕ) → j < steps_in marks most x.thread s → Copies work (after_steps marks (machine_in s x.thread) j).channel
-  step_at marks made most s on g x j less =
-      let w = runs_copy s.device x.thread x.found (on x.on) g in (
-        w.0,
-        w.1,
-        w.2,
-        w.3,
-        many_in w.0 w.1 work w.2 w.3 marks (machine_in s x.thread) j w.4
-            (λ k l. steps_move (takes marks most x.thread s) k (omega (arith, less))),
-      )
+  module _ (marks : MarkList) (made : Bool) (most : ℕ) (s : Setup) (on : made ≡ true → runs_at s.device n ≡ true) (g : HasCopy s.device) where
+    step_at : (x : StepsThread made n s) (j : ℕ) → j < steps_in marks most x.thread s → Copies work (after_steps marks (machine_in s x.thread) j).channel
+    step_at x j less =
+        let w = runs_copy s.device x.thread x.found (on x.on) g in (
+          w.0,
+          w.1,
+          w.2,
+          w.3,
+          many_in w.0 w.1 work w.2 w.3 marks (machine_in s x.thread) j w.4 (λ k l. steps_move (takes marks most x.thread s) k (omega (arith, less))),
+        )
 
-  -- what one of its steps writes and reads
-  wrote_in : (marks : MarkList) (made : Bool) (most : ℕ) (s : Setup) (a : ℕ) → (made ≡ true → runs_at s.device n ≡ true) → HasCopy s.device
-      → CallWrote marks n a made most s → Contains (writes_of work) a
-  wrote_in marks made most s a on g x =
-      let w = step_at marks made most s on g x.0 x.1.0 x.1.1 in
-      let v = w.4 in
-      next_inside w.0 w.1 work w.2 w.3 v.0 _ a v.1 (nexts w.0 w.1 work w.2 w.3 v.0 v.1.within) x.1.3
+    -- what one of its steps writes and reads
+    wrote_in : (a : ℕ) → CallWrote marks n a made most s → Contains (writes_of work) a
+    wrote_in a x =
+        let w = step_at x.0 x.1.0 x.1.1 in
+        let v = w.4 in
+        next_inside w.0 w.1 work w.2 w.3 v.0 _ a v.1 (nexts w.0 w.1 work w.2 w.3 v.0 v.1.within) x.1.3
 
-  read_in : (marks : MarkList) (made : Bool) (most : ℕ) (s : Setup) (a : ℕ) → (made ≡ true → runs_at s.device n ≡ true) → HasCopy s.device
-      → CallReads marks n a made most s → Contains (sources work.copy) a
-  read_in marks made most s a on g x =
-      let w = step_at marks made most s on g x.0 x.1.0 x.1.1 in
-      reads_inside w.0 w.1 work w.2 w.3 w.4.0 _ a w.4.1 x.1.2
+    read_in : (a : ℕ) → CallReads marks n a made most s → Contains (sources work.copy) a
+    read_in a x = let w = step_at x.0 x.1.0 x.1.1 in reads_inside w.0 w.1 work w.2 w.3 w.4.0 _ a w.4.1 x.1.2
 
   -- ---- a turn
 
@@ -101,11 +94,7 @@ module _ (work : Work) (n : ℕ) where
 
   pub after_turn : (d : DeviceValue) (regions : List Region) (most : ℕ) (e : DeviceValue) (left : List Region) (turn : Turn) → HasCopy d
       → TakesTurn d regions n most e left turn → HasCopy e
-  after_turn d regions most e left turn g x =
-      let first = first_in d regions n most in
-      let m = first.left.device in
-      subst HasCopy (turn_device x)
-      (after_call (marks_in regions) (follows m n first.called) 1 first.left (follows_runs m n first.called) (middle_copy d regions most g))
+  after_turn d regions most e left turn g x = grind (arith, turn_device, after_call, follows_runs, middle_copy)
 
   pub turn_stays : (d : DeviceValue) (regions : List Region) (most : ℕ) (e : DeviceValue) (left : List Region) (turn : Turn) → HasCopy d
       → TakesTurn d regions n most e left turn → StaysIn work d regions n most turn
@@ -117,12 +106,12 @@ module _ (work : Work) (n : ℕ) where
       let there = middle_copy d regions most g in
       record {
         writes = λ a i. elim ((turn_writes_each d regions n most e left turn x).each a i) [
-          | inl one ↦ wrote_in marks (begins d n most) most s a (begins_runs d n most) g one
-          | inr two ↦ wrote_in marks (follows m n first.called) 1 first.left a (follows_runs m n first.called) there two
+          | inl one ↦ wrote_in marks (begins d n most) most s (begins_runs d n most) g a one
+          | inr two ↦ wrote_in marks (follows m n first.called) 1 first.left (follows_runs m n first.called) there a two
         ];
         reads = λ a w. elim w [
-          | inl one ↦ read_in marks (begins d n most) most s a (begins_runs d n most) g one
-          | inr two ↦ read_in marks (follows m n first.called) 1 first.left a (follows_runs m n first.called) there two
+          | inl one ↦ read_in marks (begins d n most) most s (begins_runs d n most) g a one
+          | inr two ↦ read_in marks (follows m n first.called) 1 first.left (follows_runs m n first.called) there a two
         ];
       }
 
@@ -159,22 +148,11 @@ module _ (work : Work) (n : ℕ) where
 -- a channel executes the program from the registers for which the work was found
 has_found : (start : Registers) (limit : ℕ) (x : Explained) (c : ChannelValue) (o : Option ProgramValue) → c.program ≡ o
     → IsSomeAnd o (λ p. Finds start p.bytes limit x) → Executes start (code_of c) (x.steps - 1) c → Copies (work_of x) c
-has_found start limit x c None is f w = absurd f
-has_found start limit x c (Some p) is f w =
-    let code : code_of c ≡ p.bytes = ap bytes_of_program is in
-    let count : x.steps - 1 ≡ f.before = (let steps = f.steps in omega arith) in (
-      start,
-      p.bytes,
-      f.before,
-      f.explains,
-      subst (λ (k : ℕ). Executes start p.bytes k c) count
-          (subst (λ (bytes : List ℕ). Executes start bytes (x.steps - 1) c) code w),
-    )
+has_found start limit x c o h h2 h3 = grind (arith)
 
 has_found_at : (limit : ℕ) (x : Explained) (o : Option ChannelValue) → IsSomeAnd o (λ c. IsSomeAnd c.program (λ p. Finds c.registers p.bytes limit x))
     → IsSomeAnd o (λ c. Executes c.registers (code_of c) (x.steps - 1) c) → IfSome o (Holds (Some (work_of x)))
-has_found_at limit x None f w = absurd w
-has_found_at limit x (Some c) f w = inr (has_found c.registers limit x c c.program refl f w)
+has_found_at limit x o h h2 = grind (arith, has_found)
 
 pub underway_has_work : UnderwayHasWork
 underway_has_work d n limit x finds underway = has_found_at limit x (channel_of d n) finds underway
@@ -195,9 +173,7 @@ turns_stay_in access answer before lent left all n k most limit x turn happen fi
     (subst (TakesTurn (before k) (lent k) n most (before (k + 1)) (left k)) same does.1.1)
 
 pub restore_keeps_underway : RestoreKeepsWork
-restore_keeps_underway w saved d e regions left answer n steps does =
-    let same = does.1 in
-    (λ underway. subst (λ (v : DeviceValue). IsUnderway v n steps) (sym same) underway, λ has. subst (λ (v : DeviceValue). HasWork w v n) (sym same) has)
+restore_keeps_underway w saved d e regions left answer n steps does = grind arith
 
 -- ---- what gives a channel a program
 
@@ -231,13 +207,13 @@ written_gives : (n : ℕ) (ram : List Piece) (at value : ℕ) (d : DeviceValue) 
 written_gives n ram at value d = write_cases (Gives n d) ram at value d (record {
   inten = inl (inl refl);
   intclr = λ _. inl (inl refl);
-  dbgcmd = λ _. debug_cases (Gives n d) ram d (record {
+  dbgcmd = λ _ _. debug_cases (Gives n d) ram d (record {
     same = inl (inl refl);
     manager = λ _ _. inl (inl refl);
     sev = λ byte _. signalled_gives n (byte / 8) d;
     kills = λ t _ is. set_thread n (field 8 3 d.dbginst0) d t (killed t) is (inr refl);
     fails = λ why t _ is. set_thread n (field 8 3 d.dbginst0) d t (failed why t) is (inl refl);
-    starts = λ m t nonsecure _ is. start_thread n m d t nonsecure d.dbginst1 (program_at ram d.dbginst1) is;
+    starts = λ m t nonsecure _ _ is. start_thread n m d t nonsecure d.dbginst1 (program_at ram d.dbginst1) is;
   });
   dbginst0 = inl (inl refl);
   dbginst1 = inl (inl refl);
@@ -251,7 +227,6 @@ none_after_reset bus count n = refl
 pub only_dmago_gives : OnlyDmagoGives
 only_dmago_gives (Writes at value) d e regions left answer n does fresh = subst (Gives n d) (sym does.1) (written_gives n (pieces_of regions) at value d)
 only_dmago_gives (Turns m most) d e regions left answer n does fresh = inl tt
-only_dmago_gives Resets d e regions left answer n does fresh =
-    inl (inr (ap (λ (v : DeviceValue). program_of v n) does.1 ∙ none_after_reset d.config.bus d.config.channels n))
+only_dmago_gives Resets d e regions left answer n does fresh = grind (arith, none_after_reset)
 only_dmago_gives (Restores saved) d e regions left answer n does fresh = absurd (fresh saved refl)
 only_dmago_gives a d e regions left answer n does fresh = inl (inl (ap (λ (v : DeviceValue). channel_of v n) does.1))

@@ -1,5 +1,5 @@
 -- What makes threads faulting, and with them the line irq_abort high.
-use Rattle.std.proofs.Common.{◌≡◌, ◌≢◌, ◌∙◌, ◌⊎◌, ℕ, zero, suc, ◌+◌, ◌*◌, ◌%◌, ◌/◌, ◌^◌, Bool, true, false, ◌&&◌, ◌||◌, List, [], ◌∷◌, Option, Some, None, ap}
+use Rattle.std.proofs.Common.{◌≡◌, ◌≢◌, ◌∙◌, ◌⊎◌, ℕ, zero, suc, ◌+◌, ◌*◌, ◌%◌, ◌/◌, ◌^◌, Bool, true, false, ◌&&◌, ◌||◌, List, [], ◌∷◌, Option, Some, ap}
 use Rattle.std.proofs.Common.{refl, sym, subst, arith, inl, inr, true≢false, replicate}
 use Rattle.std.proofs.lemmas.Bool.{and_parts, cases_eq, eq-eqb, false_from_ne_true, ne_eqb, not-true, or_cases, or_left, or_right, true_from_ne_false, eqb-true}
 use Rattle.std.proofs.lemmas.Bool.{eqb-false}
@@ -31,8 +31,7 @@ set_there d n t u found = ap faults_if (set_found d.threads n t u found)
 
 -- another thread is replaced
 elsewhere : (who : Who) (d : DeviceValue) (n : ℕ) (u : Thread) → who ≢ TheChannel n → faults_at who (with_thread n u d) ≡ faults_at who d
-elsewhere TheManager d n u other = refl
-elsewhere (TheChannel m) d n u other = ap faults_if (set_other d.threads n m u (λ same. other (ap TheChannel same)))
+elsewhere who d n u h = grind (arith, set_other)
 
 -- a stopped thread is started
 start_same : (who : Who) (d : DeviceValue) (n : ℕ) (t u : Thread) → slice_get d.threads n ≡ Some t → is_stopped t ≡ true → is_faulting u ≡ false
@@ -41,8 +40,7 @@ start_same who d n t u found stopped fine = grind (arith, set_found, set_other)
 
 -- the manager and the threads are the same
 same_parts : (who : Who) (d e : DeviceValue) → e.manager ≡ d.manager → e.threads ≡ d.threads → faults_at who e ≡ faults_at who d
-same_parts TheManager d e manager threads = ap (λ (m : Manager). m.is_faulting) manager
-same_parts (TheChannel n) d e manager threads = ap (λ (ts : List Thread). faults_if (slice_get ts n)) threads
+same_parts who d e h h2 = grind (arith)
 
 signal_same : (who : Who) (k : ℕ) (d : DeviceValue) → faults_at who (signalled k d) ≡ faults_at who d
 signal_same who k d = grind arith
@@ -69,34 +67,10 @@ opcode_of d = field 16 8 d.dbginst0
 abbrev debug_result : Who → DeviceValue → Bool
 debug_result who d = if opcode_of d == 0x01 then false else (faults_at who d || (can_execute who d && debug_fails who d))
 
-if_chosen : (f : DeviceValue → Bool) (b c : Bool) (x y : DeviceValue) → b ≡ c → f (if b then x else y) ≡ f (if c then x else y)
-if_chosen f b c x y is = ap (λ (a : Bool). f (if a then x else y)) is
-
 module _ (ram : List Piece) (d : DeviceValue) where
-  abbrev first_byte : ℕ
-  first_byte = field 16 8 d.dbginst0
-
-  abbrev second_byte : ℕ
-  second_byte = field 24 8 d.dbginst0
-
-  abbrev number : ℕ
-  number = field 8 3 d.dbginst0
-
-  abbrev by_channel : DeviceValue
-  by_channel = by_thread number (slice_get d.threads number) first_byte second_byte d
-
-  abbrev by_its_manager : DeviceValue
-  by_its_manager = by_manager ram first_byte second_byte d
-
-  when_channel : (who : Who) → field 0 1 d.dbginst0 ≡ 1 → faults_at who (debugged ram d) ≡ faults_at who by_channel
-  when_channel who is = if_chosen (faults_at who) (field 0 1 d.dbginst0 == 1) true by_channel by_its_manager (eq-eqb (field 0 1 d.dbginst0) 1 is)
-
-  when_manager : (who : Who) → field 0 1 d.dbginst0 ≢ 1 → faults_at who (debugged ram d) ≡ faults_at who by_its_manager
-  when_manager who is = if_chosen (faults_at who) (field 0 1 d.dbginst0 == 1) false by_channel by_its_manager (ne_eqb (field 0 1 d.dbginst0) 1 is)
-
   -- after the debug instruction of this thread, and of another
   addressed : (who : Who) → Addresses d who → faults_at who (debugged ram d) ≡ debug_result who d
-  addressed who h1 = grind (arith, manager_own, thread_own, when_channel, when_manager)
+  addressed who h = grind (arith, ne_eqb, manager_own, eq-eqb, thread_own)
 
   passed_by : (who : Who) → ¬ Addresses d who → faults_at who (debugged ram d) ≡ faults_at who d
   passed_by who off_it =
@@ -104,9 +78,9 @@ module _ (ram : List Piece) (d : DeviceValue) where
         same = refl;
         manager = λ other m. with_manager who m other off_it;
         sev = λ byte _. signal_same who (byte / 8) d;
-        kills = λ t is _. elsewhere who d number (killed t) (λ same. off_it (subst (Addresses d) (sym same) (is, refl)));
-        fails = λ why t is _. elsewhere who d number (failed why t) (λ same. off_it (subst (Addresses d) (sym same) (is, refl)));
-        starts = λ n t nonsecure stopped found. start_same who d n t _ found stopped refl;
+        kills = λ t is _. elsewhere who d (field 8 3 d.dbginst0) (killed t) (λ same. off_it (subst (Addresses d) (sym same) (is, refl)));
+        fails = λ why t is _. elsewhere who d (field 8 3 d.dbginst0) (failed why t) (λ same. off_it (subst (Addresses d) (sym same) (is, refl)));
+        starts = λ n t nonsecure _ stopped found. start_same who d n t _ found stopped refl;
       })
     where
       with_manager : (who : Who) (m : Manager) → field 0 1 d.dbginst0 ≢ 1 → ¬ Addresses d who → faults_at who (record d { manager = m }) ≡ faults_at who d
@@ -191,8 +165,7 @@ call_own marks n made most s fine = elim (call_is made marks n most s) [
 ]
 
 runs_fine : (o : Option Thread) → option_map_or runs o false ≡ true → faults_if o ≡ false
-runs_fine None on = absurd (true≢false (sym on))
-runs_fine (Some t) on = not-true (is_faulting t) (and_parts _ (not (is_faulting t)) on).1
+runs_fine o h = grind (arith, not-true, and_parts)
 
 -- ---- a turn
 
@@ -237,8 +210,7 @@ none_faults bus zero (suc m) = refl
 none_faults bus (suc n) (suc m) = none_faults bus n m
 
 reset_fine : (who : Who) (g : Config) → faults_at who (reset_device g) ≡ false
-reset_fine TheManager g = refl
-reset_fine (TheChannel n) g = none_faults g.bus n g.channels
+reset_fine who g = grind (arith, none_faults)
 
 reset_exact : (who : Who) (d e : DeviceValue) → e ≡ reset_device d.config → (Up : Type 0) → ¬ Up → Exact who d e Up (Unit {0})
 reset_exact who d e is Up none = grind (arith, reset_fine)
@@ -321,8 +293,7 @@ kill_ends : (who : Who) (a : Access) (d : DeviceValue) → Kills who a d → End
 kill_ends who a d h1 = grind arith
 
 is_low : (b : Bool) → (b ≡ false) ⊎ (¬ (b ≡ false))
-is_low true = inr (λ low. true≢false low)
-is_low false = inl refl
+is_low b = grind (arith)
 
 decide_ends : (who : Who) (a : Access) (d : DeviceValue) → EndsFault who a d ⊎ (¬ EndsFault who a d)
 decide_ends who (Writes at value) d = decide_write who at value d
@@ -331,12 +302,8 @@ decide_ends who (Restores saved) d = is_low (faults_at who saved)
 decide_ends who a d = inr (λ w. w)
 
 -- one debug instruction has one thread
-one_addressed : (who other : Who) (d : DeviceValue) → Addresses d who → Addresses d other → other ≡ who
-one_addressed who other d a b = grind arith
-
 kills_one : (who other : Who) (a : Access) (d : DeviceValue) → Kills who a d → Kills other a d → other ≡ who
-kills_one who other (Writes at value) d x y = one_addressed who other d x.1.1.1 y.1.1.1
-kills_one who other a d x y = absurd x
+kills_one who other a d h1 h2 = grind arith
 
 -- what kills a thread makes none fail
 kill_fails_none : (who other : Who) (a : Access) (d : DeviceValue) (regions : List Region) → Kills who a d → ¬ Fails other a d regions

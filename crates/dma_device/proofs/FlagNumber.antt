@@ -1,5 +1,5 @@
 -- The number whose bits are flags.
-use Rattle.std.proofs.Common.{◌≡◌, ◌∙◌, ℕ, zero, suc, ◌+◌, ◌*◌, ◌/◌, ◌^◌, ◌<◌, Bool, true, false, List, [], ◌∷◌, get_or, length, ap, refl, sym, subst, arith, true≢false}
+use Rattle.std.proofs.Common.{◌≡◌, ◌∙◌, ℕ, zero, suc, ◌+◌, ◌*◌, ◌^◌, ◌<◌, Bool, true, false, List, [], ◌∷◌, get_or, length, ap, subst, arith}
 use Rattle.std.specs.Prelude.{◌↔◌, nat_eq}
 use Rattle.std.specs.Int.{bit_at}
 use Rattle.std.proofs.lemmas.Nat.Bits.{bit_at-lt, bit_at-suc, bit_at_lowest, same_from_bits_below}
@@ -9,12 +9,10 @@ use Rattle.dma_mem.proofs.FlagBits.{get_or_flags_of, length_flags_of}
 use Rattle.dma_device.specs.Turns.{number_of}
 
 pub flag_is : (b : Bool) → (flag b ≡ 1) ↔ (b ≡ true)
-flag_is true = ((λ e. refl), (λ e. refl))
-flag_is false = ((λ e. absurd (omega (arith, e))), (λ e. absurd (true≢false (sym e))))
+flag_is b = grind (arith)
 
 pub flag_few : (b : Bool) → flag b < 2
-flag_few true = omega arith
-flag_few false = omega arith
+flag_few b = grind (arith)
 
 number_below : (fs : List Bool) → number_of fs < 2 ^ length fs
 number_below [] = omega arith
@@ -23,13 +21,10 @@ number_below (f ∷ fs) = let more : flag f + 2 * number_of fs < 2 ^ suc (length
 pub number_bit : (fs : List Bool) (i : ℕ) → i < length fs → bit_at (number_of fs) i ≡ flag (get_or fs i false)
 number_bit [] i h = absurd (omega arith)
 number_bit (f ∷ fs) zero h = bit_at_lowest (flag f + 2 * number_of fs) ∙ omega (arith, flag_few f)
-number_bit (f ∷ fs) (suc i) h =
-    let half : (flag f + 2 * number_of fs) / 2 ≡ number_of fs = omega (arith, flag_few f) in
-    bit_at-suc (flag f + 2 * number_of fs) i ∙ ap (λ (n : ℕ). bit_at n i) half ∙ number_bit fs i (omega arith)
+number_bit (f ∷ fs) (suc i) h = grind (arith, flag_few, bit_at-suc, number_bit fs i (omega arith))
 
 flag_of_bit : (m : ℕ) → m < 2 → flag (nat_eq m 1) ≡ m
-flag_of_bit (suc (suc m)) h = absurd (omega arith)
-flag_of_bit m h = refl
+flag_of_bit m h = grind (arith)
 
 pub number_is : (n : ℕ) → n < 2 ^ 32 → number_of (flags_of n) ≡ n
 number_is n range =

@@ -1,6 +1,6 @@
 -- What steps make of the flags: only a DMASEV and a DMAWFE change one; and a step that waits.
-use Rattle.std.proofs.Common.{◌≡◌, ◌≢◌, ◌∙◌, ◌⊎◌, ℕ, zero, suc, ◌<◌, ◌≤◌, Bool, true, false, List, ◌∷◌, length, get_or, set, Option, Some, None, Result, Ok}
-use Rattle.std.proofs.Common.{Err, ap, refl, sym, subst, arith, inl, inr, true≢false}
+use Rattle.std.proofs.Common.{◌≡◌, ◌≢◌, ◌∙◌, ◌⊎◌, ℕ, zero, suc, ◌<◌, ◌≤◌, Bool, true, false, List, ◌∷◌, length, get_or, set, Option, Some, Result, Ok}
+use Rattle.std.proofs.Common.{ap, refl, sym, subst, arith, inl, inr, true≢false}
 use Rattle.std.specs.Prelude.{◌↔◌}
 use Rattle.std.proofs.{lemmas.Bool.cases_Bool, lemmas.Bool.cases_eq, lemmas.List.get_or-set_other, lemmas.List.get_or-set_same, lemmas.List.length-set}
 use Rattle.dma_insn.specs.{declared.chip.ChipInsn.ChipInsn, declared.chip.ChipInsn.TheVariants.Sev, declared.chip.ChipInsn.TheVariants.Wfe}
@@ -21,9 +21,7 @@ fetched_length marks next s = grind (arith, act_flags, length-set)
 
 pub steps_flags : (marks : MarkList) (s : Machine) (k : ℕ) → length (after_steps marks s k).flags ≡ length s.flags
 steps_flags marks s zero = refl
-steps_flags marks s (suc k) =
-    let u = after_steps marks s k in
-    fetched_length marks (ahead_of u.channel) (state_of u.channel u.image u.flags) ∙ steps_flags marks s k
+steps_flags marks s (suc k) = grind (arith, fetched_length, steps_flags marks s k)
 
 -- ---- one flag
 
@@ -37,25 +35,18 @@ cleared xs e k h = h
 
 step_clear : (marks : MarkList) (next : Result ChipInsn FaultKind) (s : State) (k : ℕ) → IsClear k s.flags → signal_of next ≢ Some k
     → IsClear k (exec_fetched marks next s).1.flags
-step_clear marks (Ok i) s k h other = grind (arith, act_flags, cleared, get_or-set_other)
-step_clear marks (Err kind) s k h other = h
+step_clear marks next s k h h2 = grind (arith, act_flags, get_or-set_other)
 
 -- an instruction that signals an event sets its flag
-insn_sets : (marks : MarkList) (i : ChipInsn) (s : State) (k : ℕ) → signal_of (Ok i) ≡ Some k → (act marks i s).1.flags ≡ set s.flags k true
-insn_sets marks (Sev e) s k is = let same : e ≡ k = cc in ap (λ (j : ℕ). set s.flags j true) same
-insn_sets marks i s k is = absurd (cc)
-
 step_sets : (marks : MarkList) (next : Result ChipInsn FaultKind) (s : State) (k : ℕ) → signal_of next ≡ Some k
     → (exec_fetched marks next s).1.flags ≡ set s.flags k true
-step_sets marks (Ok i) s k is = insn_sets marks i s k is
-step_sets marks (Err kind) s k is = absurd (cc)
+step_sets marks next s k h = grind (arith)
 
 quiet : (turn : ChanTurn) (signal : Option ℕ) (k : ℕ) → goes_on turn signal ≡ true → signal ≢ Some k
 quiet turn signal k h is = grind arith
 
 is_signal : (signal : Option ℕ) (k : ℕ) → (signal ≡ Some k) ⊎ (signal ≢ Some k)
-is_signal None k = inr (λ is. cc)
-is_signal (Some e) k = elim (cases_eq e k) [ inl same ↦ inl (ap Some same) | inr other ↦ inr (λ is. other (cc is)) ]
+is_signal signal k = grind (arith, cases_eq)
 
 abbrev pub Is : ℕ → List Bool → Type 0
 Is k flags = get_or flags k false ≡ true
@@ -76,14 +67,12 @@ act_keeps marks i s k h none = grind (arith, act_flags, get_or-set_other, set_tr
 
 step_keeps : (marks : MarkList) (next : Result ChipInsn FaultKind) (s : State) (k : ℕ) → Is k s.flags
     → ((v : Bool) → next ≡ Ok (Wfe k v) → (exec_fetched marks next s).0 ≢ Moved) → Is k (exec_fetched marks next s).1.flags
-step_keeps marks (Ok i) s k h none = act_keeps marks i s k h (λ v is. none v (ap (λ (j : ChipInsn). Ok j) is))
-step_keeps marks (Err kind) s k h none = h
+step_keeps marks next s k h h2 = grind (arith, act_keeps)
 
 -- a DMAWFE that passes found its flag set, and clears it
 wfe_takes : (marks : MarkList) (s : State) (k : ℕ) (v b : Bool) → get_or s.flags k false ≡ b → (act marks (Wfe k v) s).0 ≡ Moved → Is k s.flags
     × IsClear k (act marks (Wfe k v) s).1.flags
-wfe_takes marks s k v true is moved = (is, rw is (set_false s.flags k))
-wfe_takes marks s k v false is moved = absurd (let waits : Waiting k ≡ Moved = rw is at moved in cc)
+wfe_takes marks s k v b h h2 = grind (arith, set_false)
 
 step_takes : (marks : MarkList) (next : Result ChipInsn FaultKind) (s : State) (k : ℕ) (v : Bool) → next ≡ Ok (Wfe k v) → (exec_fetched marks next s).0 ≡ Moved
     → Is k s.flags × IsClear k (exec_fetched marks next s).1.flags
@@ -132,13 +121,7 @@ module _ (marks : MarkList) (s : Machine) (k : ℕ) where
   -- a flag is set after a call exactly if the last step signals its event, or if it was set and no step took it
   pub flag_exact : (v : Machine) (most taken : ℕ) (last : Option ChanTurn) → TakesSteps marks s most taken last v → length v.flags ≡ 32 → k < 32
       → Is k v.flags ↔ ((signal_after marks s taken ≡ Some k) ⊎ (Is k s.flags × ((j : ℕ) → j < taken → ¬ Passes j)))
-  flag_exact v most zero last x len below = (
-    (λ high. inr (subst (λ (m : Machine). Is k m.flags) x.ends_at high, λ j less. absurd (omega arith))),
-    (λ why. elim why [
-      | inl bad ↦ absurd (cc)
-      | inr kept ↦ subst (λ (m : Machine). Is k m.flags) (sym x.ends_at) kept.0
-    ]),
-  )
+  flag_exact v most zero last x len below = grind arith
   flag_exact v most (suc p) last x len below =
       let u = at p in
       let next = ahead_of u.channel in

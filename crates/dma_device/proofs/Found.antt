@@ -20,8 +20,7 @@ runs_within (t ∷ ts) zero on = omega arith
 runs_within (t ∷ ts) (suc n) on = omega (arith, runs_within ts n on)
 
 pub found_running : (d e : DeviceValue) (n : ℕ) (t : Thread) → e ≡ d → runs_at d n ≡ true → t ≡ get_or e.threads n t → slice_get e.threads n ≡ Some t
-found_running d e n t same on is =
-    slice_get_read e.threads (length e.threads) n t refl (runs_within e.threads n (ap (λ (v : DeviceValue). runs_at v n) same ∙ on)) is
+found_running d e n t same on is = grind (arith, slice_get_read, runs_within)
 
 -- ---- in lists of threads
 
@@ -45,9 +44,7 @@ any_at p (u ∷ us) (suc n) t none found = any_at p us n t (or_parts (p u) (list
 pub any_set : (p : Thread → Bool) (ts : List Thread) (n : ℕ) (t u : Thread) → slice_get ts n ≡ Some t → p u ≡ p t
     → list_any p (slice_set ts n u) ≡ list_any p ts
 any_set p [] n t u found alike = refl
-any_set p (v ∷ vs) zero t u found alike =
-    let same : v ≡ t = cc in
-    ap (λ (b : Bool). b || list_any p vs) (alike ∙ ap p (sym same))
+any_set p (v ∷ vs) zero t u found alike = grind arith
 any_set p (v ∷ vs) (suc n) t u found alike = ap (λ (b : Bool). p v || b) (any_set p vs n t u found alike)
 
 pub put_back : (ts : List Thread) (n : ℕ) (t : Thread) → slice_get ts n ≡ Some t → slice_set ts n t ≡ ts

@@ -31,7 +31,7 @@ debugged_sound ram d h = debug_cases IsSoundDevice ram d (record {
   sev = λ byte event. signalled_sound d (byte / 8) h (event_known d byte event);
   kills = λ t _ _. thread_sound d (field 8 3 d.dbginst0) (killed t) h refl;
   fails = λ why t _ _. thread_sound d (field 8 3 d.dbginst0) (failed why t) h refl;
-  starts = λ n t nonsecure _ _. thread_sound d n (started nonsecure d.dbginst1 (program_at ram d.dbginst1) t) h refl;
+  starts = λ n t nonsecure _ _ _. thread_sound d n (started nonsecure d.dbginst1 (program_at ram d.dbginst1) t) h refl;
 })
 
 written_sound : (ram : List Piece) (at value : ℕ) (d : DeviceValue) → IsSoundDevice d → IsSoundDevice (written ram at value d)
@@ -43,7 +43,7 @@ written_sound ram at value d h =
       inten = same_threads d enabled h refl refl h.known.events h.known.interrupts (and_known value n);
       intclr = λ is. same_threads d lowered h refl refl h.known.events (and_fewer d.interrupts (bit_not w32 (bit_and value d.inten)) n h.known.interrupts)
           h.known.inten;
-      dbgcmd = λ is. debugged_sound ram d h;
+      dbgcmd = λ _ _. debugged_sound ram d h;
       dbginst0 = same_threads d (record d { dbginst0 = value }) h refl refl h.known.events h.known.interrupts h.known.inten;
       dbginst1 = same_threads d (record d { dbginst1 = value }) h refl refl h.known.events h.known.interrupts h.known.inten;
       other = h;

@@ -28,10 +28,7 @@ in_later at p ps k rises past = grind (arith, after_gap, get_or-append_right)
 -- pieces that rise from an address begin there or later
 low_at : (at : ℕ) (rs : List Region) (i : ℕ) (r : Region) → rises_from at (pieces_of rs) ≡ true → slice_get rs i ≡ Some r → at ≤ r.addr
 low_at at [] i r rises is = absurd (cc)
-low_at at (q ∷ rs) zero r rises is =
-    let f = first at (piece_of q) (pieces_of rs) rises in
-    let same : q ≡ r = cc in
-    subst (λ (s : Region). at ≤ s.addr) same f.after
+low_at at (q ∷ rs) zero r rises is = grind arith
 low_at at (q ∷ rs) (suc i) r rises is =
     let f = first at (piece_of q) (pieces_of rs) rises in
     omega (arith, f.after, low_at (end_of (piece_of q)) rs i r f.rest is)

@@ -1,6 +1,6 @@
 -- Interrupts: what a turn makes of the lines irq[31:0], and along accesses in a row.
-use Rattle.std.proofs.Common.{◌≡◌, ◌∙◌, ◌⊎◌, ℕ, true, ◌+◌, ◌<◌, ◌≤◌, List, ap, refl, sym, subst, arith, inl, inr, ◌-◌, ◌^◌, Bool, false, length, get_or, Option}
-use Rattle.std.proofs.Common.{Some, None, true≢false, w32}
+use Rattle.std.proofs.Common.{◌≡◌, ◌∙◌, ◌⊎◌, ℕ, true, ◌+◌, ◌<◌, ◌≤◌, List, ap, sym, subst, arith, inl, inr, ◌-◌, ◌^◌, Bool, false, length, get_or, Option}
+use Rattle.std.proofs.Common.{Some, None, w32}
 use Rattle.dma_chan.specs.Stepping.{Machine}
 use Rattle.std.specs.{Prelude.◌↔◌, Prelude.min, Prelude.max, Int.bit_at, Int.bit_not}
 use Rattle.std.proofs.lemmas.Bool.{cases_eq, ne_eqb}
@@ -33,9 +33,7 @@ abbrev CallRaises : DeviceValue → DeviceValue → Option ℕ → ℕ → Type 
 CallRaises d e signal k = IsHigh (irqs e) k ↔ (IsHigh (irqs d) k ⊎ (IsHigh d.inten k × (signal ≡ Some k)))
 
 pub flag_bit : (flags k : ℕ) → k < 32 → get_or (flags_of flags) k false ≡ true → bit_at flags k ≡ 1
-flag_bit flags k below h =
-    elim (cases_eq (bit_at flags k) 1)
-    [ inl one ↦ one | inr other ↦ absurd (true≢false (sym h ∙ get_or_flags_of flags k below ∙ ne_eqb (bit_at flags k) 1 other)) ]
+flag_bit flags k below h = grind (arith, cases_eq, get_or_flags_of, ne_eqb)
 
 -- the bit of an event that channels see
 pub seen_bit : (d : DeviceValue) (k : ℕ) → k < 32 → d.inten < 2 ^ 32 → bit_at (visible_events d) k ≡ min (bit_at d.events k) (1 - bit_at d.inten k)
@@ -125,8 +123,7 @@ abbrev pub Exact : (k old new : ℕ) → Type 0 → Type 0 → Type 0
 Exact k old new Up Down = history.Exact (IsHigh old k) (IsHigh new k) Up Down
 
 pub exact_if_same : (k old new : ℕ) (Up Down : Type 0) → new ≡ old → ¬ Up → ¬ Down → Exact k old new Up Down
-exact_if_same k old new Up Down same =
-    history.exact_if_same (IsHigh old k) (IsHigh new k) Up Down (subst (λ (m : ℕ). IsHigh m k) (sym same)) (subst (λ (m : ℕ). IsHigh m k) same)
+exact_if_same k old new Up Down same = grind arith
 
 write_exact : (k at value : ℕ) (d : DeviceValue) (regions : List Region) → HasLine d k → let e = written (pieces_of regions) at value d in
     Exact k (irqs d) (irqs e) (Raises k (Writes at value) d regions) (Clears k (Writes at value) d)
@@ -145,13 +142,9 @@ restored_bit k bits before after is = grind arith
 
 access_exact : (k : ℕ) (a : Access) (d e : DeviceValue) (regions left : List Region) (answer : Answer) → HasLine d k → Does a d regions answer e left
     → Exact k (irqs d) (irqs e) (Raises k a d regions) (Clears k a d)
-access_exact k (Writes at value) d e regions left answer has x =
-    subst (λ (v : DeviceValue). Exact k (irqs d) (irqs v) (Raises k (Writes at value) d regions) (Clears k (Writes at value) d)) (sym x.1)
-    (write_exact k at value d regions has)
+access_exact k (Writes at value) d e regions left answer has x = grind (arith, write_exact)
 access_exact k (Turns n most) d e regions left answer has x = turn_exact k n most d e regions left x.0 has x.1.1
-access_exact k Resets d e regions left answer has x =
-    let low : ¬ IsHigh (irqs e) k = (λ high. let zero_bit = ap (λ (v : DeviceValue). bit_at (irqs v) k) x.1 ∙ bit_at-zero k in omega (arith, zero_bit, high)) in
-    ((λ high. absurd (low high)), (λ why. elim why [ inl up ↦ absurd (up.1) | inr stays ↦ absurd (stays.1 tt) ]))
+access_exact k Resets d e regions left answer has x = grind (arith, bit_at-zero)
 access_exact k (Restores saved) d e regions left answer has x = restored_bit k (irqs saved) (irqs d) (irqs e) (ap irqs x.1)
 access_exact k a d e regions left answer has x = exact_if_same k (irqs d) (irqs e) (Raises k a d regions) ⊥ (ap irqs x.1) (λ up. up.1) (λ down. down)
 
@@ -161,11 +154,8 @@ pub access_has : (k : ℕ) (a : Access) (d e : DeviceValue) (regions left : List
     → HasLine e k
 access_has k (Writes at value) d e regions left answer has x =
     subst (λ (v : DeviceValue). HasLine v k) (sym x.1) (write_has k (pieces_of regions) at value d has)
-access_has k (Turns n most) d e regions left answer has x =
-    has_kept k d e (turn_keeps x.1.1 (λ (v : DeviceValue). v.config ≡ d.config) (λ made marks m s h. if_config made marks n m s ∙ h) refl)
-    (turn_keeps x.1.1 (λ (v : DeviceValue). v.inten ≡ d.inten) (λ made marks m s h. if_inten made marks n m s ∙ h) refl) has
-access_has k Resets d e regions left answer has x =
-    subst (λ (v : DeviceValue). HasLine v k) (sym x.1) (record { events = has.events; event = has.event; inten = omega arith })
+access_has k (Turns n most) d e regions left answer has x = grind (arith, has_kept, turn_keeps, if_config, if_inten)
+access_has k Resets d e regions left answer has x = grind arith
 access_has k (Restores saved) d e regions left answer has x =
     let few = few_events saved.config x.4.config in
     subst (λ (v : DeviceValue). HasLine v k) (sym x.1)

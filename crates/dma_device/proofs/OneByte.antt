@@ -26,11 +26,14 @@ small = record { channels = 1; events = 2; nonsecure = false; bus = Bits32; line
 valid_small : is_valid small ≡ true
 valid_small = refl
 
--- DMAMOV SAR, 0x30; DMAMOV DAR, 0x31; DMAMOV CCR, which rises by one byte at both ends; DMALD; DMAST; DMAEND
-abbrev pub program : List ℕ
-program =
-    0xBC ∷ 0x00 ∷ 0x30 ∷ 0x00 ∷ 0x00 ∷ 0x00 ∷ 0xBC ∷ 0x02 ∷ 0x31 ∷ 0x00 ∷ 0x00 ∷ 0x00 ∷ 0xBC ∷ 0x01 ∷ 0x01 ∷ 0x40 ∷ 0x00
+-- DMAMOV SAR, 0x30; DMAMOV DAR, x; DMAMOV CCR, which rises by one byte at both ends; DMALD; DMAST; DMAEND
+abbrev pub program_to : ℕ → List ℕ
+program_to x =
+    0xBC ∷ 0x00 ∷ 0x30 ∷ 0x00 ∷ 0x00 ∷ 0x00 ∷ 0xBC ∷ 0x02 ∷ x ∷ 0x00 ∷ 0x00 ∷ 0x00 ∷ 0xBC ∷ 0x01 ∷ 0x01 ∷ 0x40 ∷ 0x00
     ∷ 0x00 ∷ 0x04 ∷ 0x08 ∷ 0x00 ∷ []
+
+abbrev pub program : List ℕ
+program = program_to 0x31
 
 abbrev pub region : ℕ → ℕ → List ℕ → Region
 region name addr bytes = record { addr = addr; bytes = record { ref_ptr = (0, 0); ghost_name = name; now = bytes }; read_only = 0 }
@@ -88,23 +91,17 @@ is_sync (Ok (Wfe e v)) = true
 is_sync (Ok (Sev e)) = true
 is_sync next = false
 
+-- what is true of each of the first five numbers
+pub all_five : (P : ℕ → Type 0) → P 0 → P 1 → P 2 → P 3 → P 4 → (k : ℕ) → k < 5 → P k
+all_five P h h2 h3 h4 h5 k h6 = grind (arith)
+
 goes_on : (k : ℕ) → k < 5 → GoesOn (next_in program (traced start program k)) (traced start program k)
 unfolding is_control control_of end_at burst_at
-goes_on zero less = ((λ bad. cc), refl)
-goes_on (suc zero) less = ((λ bad. cc), refl)
-goes_on (suc (suc zero)) less = ((λ bad. cc), refl)
-goes_on (suc (suc (suc zero))) less = ((λ bad. cc), refl)
-goes_on (suc (suc (suc (suc zero)))) less = ((λ bad. cc), refl)
-goes_on (suc (suc (suc (suc (suc k))))) less = absurd (omega arith)
+goes_on = all_five _ ((λ bad. cc), refl) ((λ bad. cc), refl) ((λ bad. cc), refl) ((λ bad. cc), refl) ((λ bad. cc), refl)
 
 no_sync : (k : ℕ) → k < 5 → is_sync (next_in program (traced start program k)) ≡ false
 unfolding is_sync is_control control_of end_at burst_at
-no_sync zero less = refl
-no_sync (suc zero) less = refl
-no_sync (suc (suc zero)) less = refl
-no_sync (suc (suc (suc zero))) less = refl
-no_sync (suc (suc (suc (suc zero)))) less = refl
-no_sync (suc (suc (suc (suc (suc k))))) less = absurd (omega arith)
+no_sync = all_five _ refl refl refl refl refl
 
 pub explains : Explains start program work 5
 unfolding is_control control_of end_at burst_at

@@ -1,27 +1,27 @@
 -- A program that copies, and that a DMAGO starts, finishes.
-use Rattle.std.proofs.Common.{◌≡◌, ◌≢◌, ◌∙◌, ◌⊎◌, ℕ, zero, suc, ◌+◌, ◌-◌, ◌*◌, ◌%◌, ◌^◌, ◌<◌, ◌≤◌, Bool, true, false, ◌&&◌, List, length, get_or, Option, Some}
-use Rattle.std.proofs.Common.{None, Ok, ap, refl, sym, subst, arith, inl, inr, true≢false}
+use Rattle.std.proofs.Common.{◌≡◌, ◌≢◌, ◌∙◌, ◌⊎◌, ℕ, zero, suc, ◌+◌, ◌-◌, ◌*◌, ◌%◌, ◌^◌, ◌<◌, ◌≤◌, Bool, true, false, ◌&&◌, List, get_or, Option, Some}
+use Rattle.std.proofs.Common.{Ok, ap, refl, sym, subst, arith, inl, inr, true≢false}
 use Rattle.std.specs.{Prelude.IfSome, Prelude.IsSomeAnd, Prelude.is_some, Prelude.nat_lt, Prelude.slice_get, Int.bit_at}
 use Rattle.std.proofs.{lemmas.Bool.and_parts, lemmas.Bool.cases_eq, lemmas.Bool.lt-ltb, lemmas.Nat.Bits.bit_at-lt}
 use Rattle.dma_insn.specs.{ControlWord.flag, declared.chip.ChipInsn.ChipInsn, declared.chip.ChipInsn.TheVariants.End, declared.chip.ChipInsn.TheVariants.Wfe}
-use Rattle.dma_mem.specs.{Flags.flags_of, Marking.MarkList, Places.Descriptor, declared.regions.Region.Region}
-use Rattle.dma_chan.specs.Channel.{ChannelValue, ahead_of, step_of, stored_by}
+use Rattle.dma_mem.specs.{Flags.flags_of, Marking.MarkList, Places.Descriptor}
+use Rattle.dma_chan.specs.Channel.{ChannelValue, ahead_of}
 use Rattle.dma_chan.specs.Stepping.{Machine, TakesSteps, after_step, after_steps, answer_at, goes_on_after}
 use Rattle.dma_chan.specs.declared.turn.ChanTurn.TheVariants.{Moved, Waiting, Ended, Fault}
 use Rattle.dma_chan.specs.{declared.exec.Registers.Registers, Exec.ChangesNothing, Programs.ProgramValue, declared.turn.ChanTurn.ChanTurn}
 use Rattle.dma_explain.specs.Works.{MissesAll}
-use Rattle.dma_explain.proofs.CallsAmongOthers.{Runs, call_answers, call_fails, many, next_ahead}
-use Rattle.dma_explain.proofs.{AmongOthers.Fits, AmongOthers.is_in, CompiledExplained.compiled_events}
+use Rattle.dma_explain.proofs.CallsAmongOthers.{call_answers, call_fails, many, next_ahead}
+use Rattle.dma_explain.proofs.{AmongOthers.is_in, CompiledExplained.compiled_events}
 use Rattle.dma_chan.proofs.{RunAlone.moved_count, StepsTaken.steps_move, SteppedOver.is_still, SteppedOver.was_moved, SteppedOver.went_before}
-use Rattle.dma_device.specs.Dmago.{Go, RunsCopy, GivenTurns, csr_status, start_of}
+use Rattle.dma_device.specs.Dmago.{Go, GivenTurns, csr_status, start_of}
 use Rattle.dma_device.specs.Progress.{CompiledGoesOn, CompiledHasEvents, CompiledSignals, DmagoFinishes, ReadyTurns, IsCompiled, MayPass, compiled_count}
-use Rattle.dma_device.specs.{CallSteps.StepsThread, CallSteps.marks_in, Device.DeviceValue, Device.csr, Device.of_thread, Copies.IsFit, Events.IsVisible}
-use Rattle.dma_device.specs.{Thread.is_faulting, Thread.is_stopped, Thread.is_stopped_status, Thread.status_bits, Turns.TakesTurn, Turns.runs_at}
-use Rattle.dma_device.specs.{Turns.setup_of, Turns.visible_events, declared.device.turns.Turn.Turn, declared.thread.Status.Status}
-use Rattle.dma_device.specs.{declared.thread.Status.TheVariants.Stopped, declared.thread.Thread.Thread}
+use Rattle.dma_device.specs.{CallSteps.StepsThread, Device.DeviceValue, Device.csr, Device.of_thread, Copies.IsFit, Events.IsVisible}
+use Rattle.dma_device.specs.{Thread.is_faulting, Thread.is_stopped, Thread.is_stopped_status, Thread.status_bits, Turns.runs_at}
+use Rattle.dma_device.specs.{Turns.visible_events, declared.thread.Status.Status}
+use Rattle.dma_device.specs.{declared.thread.Thread.Thread}
 use Rattle.dma_device.proofs.Copies.{Fit, call_fine, fit_kept, fits_all}
-use Rattle.dma_device.proofs.Driven.{After, Before, Call, Copying, Going, Has, Steps, after_turn, along, channel_after, copying, count_in, from, last_answer}
-use Rattle.dma_device.proofs.Driven.{one_of, steps_of, to, two_of}
+use Rattle.dma_device.proofs.Driven.{After, Before, Call, Copying, Drive, Going, RunsOn, Steps, along, channel_after, copying, count_in, drive, from, last_answer}
+use Rattle.dma_device.proofs.Driven.{one_at, steps_of, to, turned, two_at, weaker}
 use Rattle.dma_device.proofs.{Events.flag_of_bit, FlagSteps.waits_at, Starts.read_csr, Interrupts.seen_bit}
 use borrow.Author.Tests.{ltb-true}
 use Rattle.dma_explain.specs.Explains.{Explains, HasEvents, IsIn, IsWait, StartsWith, Work, next_in, traced}
@@ -33,11 +33,22 @@ pub before_end : (start : Registers) (program : List ℕ) (work : Work) (n : ℕ
     → next_in program (traced start program k) ≡ Ok i → k < n
 before_end start program work n h k i within other next = grind arith
 
-module _ (start : Registers) (program : List ℕ) (work : Work) (count : ℕ) (marks : MarkList) (first : List ℕ) (h : Explains start program work count)
-    (low : Fits work (length first)) where
+-- the next instruction of a channel that is at a DMAWFE
+abbrev pub wait_ahead : (c : Copying) (marks : MarkList) (s : Machine) (r : RunsOn c s) (e : ℕ) (v : Bool) → ahead_of s.channel ≡ Ok (Wfe e v)
+    → IsWait c.start c.program c.count e
+wait_ahead c marks s r e v ahead =
+    let at = next_in c.program (traced c.start c.program r.0) in
+    let next = sym (next_ahead c.start c.program c.work c.count marks c.first c.explains c.fits r.0 s at r.1 refl) ∙ ahead in
+    record {
+      step = r.0;
+      within = before_end c.start c.program c.work c.count c.explains r.0 (Wfe e v) r.1.within (λ bad. cc) next;
+      invalid = v;
+      waits = next;
+    }
+
+module _ (marks : MarkList) where
   pub step_count : (u : Machine) → answer_at marks u ≡ Moved → (after_step marks u).channel.taken ≡ u.channel.taken + 1
-  step_count u moved = moved_count (answer_at marks u) (step_of marks u.channel u.image u.flags).1 (stored_by (ahead_of u.channel) u.channel.registers)
-      u.channel moved
+  step_count u moved = grind (arith, moved_count)
 
   pub went_moved : (s : Machine) (j : ℕ) → goes_on_after marks s (suc j) ≡ true → answer_at marks (after_steps marks s j) ≡ Moved
   went_moved s j goes = was_moved (ahead_of (after_steps marks s j).channel) (answer_at marks (after_steps marks s j)) (went_before marks s (suc j) goes)
@@ -48,59 +59,59 @@ module _ (start : Registers) (program : List ℕ) (work : Work) (count : ℕ) (m
   many_count s (suc j) moves =
       omega (arith, many_count s j (λ k l. moves k (omega arith)), step_count (after_steps marks s j) (went_moved s j (moves (suc j) (omega arith))))
 
-  -- a call that may take a step ends the program or counts one, if its first instruction doesn't wait, and no mark is
-  -- met
-  progress : (s v : Machine) (most taken : ℕ) (last : Option ChanTurn) (least more : ℕ) → 0 < most → MissesAll marks work
-      → (r : Runs start program work count first s) → least ≤ s.channel.taken → (more ≤ least)
-      ⊎ ((more ≤ least + 1) × ((e : ℕ) → (w : IsWait start program count e) → w.step ≡ r.0 → get_or s.flags e false ≡ true))
-      → TakesSteps marks s most taken last v → (last ≡ Some Ended) ⊎ (more ≤ v.channel.taken)
-  progress s v most zero last least more some misses r few awake x =
-      absurd (call_answers start program work count marks first h low s v most zero last some r x x.answer)
-  progress s v most (suc p) last least more some misses r few awake x = by p (answer_at marks (after_steps marks s p)) refl x
-    where
-      still : (p : ℕ) (a : ChanTurn) → answer_at marks (after_steps marks s p) ≡ a → ChangesNothing a → TakesSteps marks s most (suc p) last v
-          → v.channel.taken ≡ s.channel.taken + p
-      still p a is nothing x =
-          let same = ap (λ (m : Machine). m.channel.taken) (x.ends_at ∙ is_still marks (after_steps marks s p) (subst ChangesNothing (sym is) nothing)) in
-          same ∙ many_count s p (steps_move x)
+module _ (c : Copying) (marks : MarkList) (s v : Machine) (most : ℕ) (last : Option ChanTurn) (least more : ℕ) (r : RunsOn c s) (few : least ≤ s.channel.taken)
+  where
+    -- a call needs no progress, or its first instruction doesn't wait
+    abbrev Sees : Type 0
+    Sees = (more ≤ least)
+        ⊎ ((more ≤ least + 1) × ((e : ℕ) → (w : IsWait c.start c.program c.count e) → w.step ≡ r.0 → get_or s.flags e false ≡ true))
 
-      awakes : (e : ℕ) → ((e : ℕ) → (w : IsWait start program count e) → w.step ≡ r.0 → get_or s.flags e false ≡ true) → answer_at marks s ≡ Waiting e → ⊥
-      awakes e awake is =
-          let w = waits_at marks s e is in
-          let next = sym (next_ahead start program work count marks first h low r.0 s (next_in program (traced start program r.0)) r.1 refl) ∙ w.1.0 in
-          let wait : IsWait start program count e =
-          record { step = r.0; within = before_end start program work count h r.0 (Wfe e w.0) r.1.within (λ bad. cc) next; invalid = w.0; waits = next } in
-          true≢false (sym (awake e wait refl) ∙ w.1.1)
+    -- one that may take a step then ends the program or counts one, if no mark is met
+    progress : (taken : ℕ) → 0 < most → MissesAll marks c.work → Sees → TakesSteps marks s most taken last v → (last ≡ Some Ended) ⊎ (more ≤ v.channel.taken)
+    progress zero some misses awake x =
+        absurd (call_answers c.start c.program c.work c.count marks c.first c.explains c.fits s v most zero last some r x x.answer)
+    progress (suc p) some misses awake x = by p (answer_at marks (after_steps marks s p)) refl x
+      where
+        still : (p : ℕ) (a : ChanTurn) → answer_at marks (after_steps marks s p) ≡ a → ChangesNothing a → TakesSteps marks s most (suc p) last v
+            → v.channel.taken ≡ s.channel.taken + p
+        still p a is nothing x =
+            let same = ap (λ (m : Machine). m.channel.taken) (x.ends_at ∙ is_still marks (after_steps marks s p) (subst ChangesNothing (sym is) nothing)) in
+            same ∙ many_count marks s p (steps_move x)
 
-      waits : (p e : ℕ) → answer_at marks (after_steps marks s p) ≡ Waiting e → TakesSteps marks s most (suc p) last v → (more ≤ least)
-          ⊎ ((more ≤ least + 1) × ((e : ℕ) → (w : IsWait start program count e) → w.step ≡ r.0 → get_or s.flags e false ≡ true)) → more ≤ v.channel.taken
-      waits p e is x (inl fewer) = let same = still p (Waiting e) is tt x in omega (arith, same, fewer, few)
-      waits zero e is x (inr w) = absurd (awakes e w.1 is)
-      waits (suc p) e is x (inr w) = let same = still (suc p) (Waiting e) is tt x in omega (arith, same, few, w.0)
+        awakes : (e : ℕ) → ((e : ℕ) → (w : IsWait c.start c.program c.count e) → w.step ≡ r.0 → get_or s.flags e false ≡ true)
+            → answer_at marks s ≡ Waiting e → ⊥
+        awakes e awake is =
+            let w = waits_at marks s e is in
+            let wait = wait_ahead c marks s r e w.0 w.1.0 in
+            true≢false (sym (awake e wait refl) ∙ w.1.1)
 
-      bound : (more ≤ least) ⊎ ((more ≤ least + 1) × ((e : ℕ) → (w : IsWait start program count e) → w.step ≡ r.0 → get_or s.flags e false ≡ true))
-          → more ≤ least + 1
-      bound (inl fewer) = omega (arith, fewer)
-      bound (inr w) = w.0
+        waits : (p e : ℕ) → answer_at marks (after_steps marks s p) ≡ Waiting e → TakesSteps marks s most (suc p) last v → Sees → more ≤ v.channel.taken
+        waits p e is x (inl fewer) = let same = still p (Waiting e) is tt x in omega (arith, same, fewer, few)
+        waits zero e is x (inr w) = absurd (awakes e w.1 is)
+        waits (suc p) e is x (inr w) = let same = still (suc p) (Waiting e) is tt x in omega (arith, same, few, w.0)
 
-      counted : (p : ℕ) → TakesSteps marks s most (suc p) last v → answer_at marks (after_steps marks s p) ≡ Moved → more ≤ v.channel.taken
-      counted p x moved =
-          let end = ap (λ (m : Machine). m.channel.taken) x.ends_at in
-          omega (arith, many_count s p (steps_move x), step_count (after_steps marks s p) moved, end, few, bound awake)
+        bound : Sees → more ≤ least + 1
+        bound (inl fewer) = omega (arith, fewer)
+        bound (inr w) = w.0
 
-      by : (p : ℕ) (turn : ChanTurn) → answer_at marks (after_steps marks s p) ≡ turn → TakesSteps marks s most (suc p) last v → (last ≡ Some Ended)
-          ⊎ (more ≤ v.channel.taken)
-      by p Moved e x = inr (counted p x e)
-      by p Ended e x = inl (x.answer ∙ ap (λ (a : ChanTurn). Some a) e)
-      by p (Waiting k) e x = inr (waits p k e x awake)
-      by p (Fault kind) e x = absurd
-          (call_fails start program work count marks first h low s v most (suc p) last kind misses r x (x.answer ∙ ap (λ (a : ChanTurn). Some a) e))
+        counted : (p : ℕ) → TakesSteps marks s most (suc p) last v → answer_at marks (after_steps marks s p) ≡ Moved → more ≤ v.channel.taken
+        counted p x moved =
+            let end = ap (λ (m : Machine). m.channel.taken) x.ends_at in
+            omega (arith, many_count marks s p (steps_move x), step_count marks (after_steps marks s p) moved, end, few, bound awake)
+
+        by : (p : ℕ) (turn : ChanTurn) → answer_at marks (after_steps marks s p) ≡ turn → TakesSteps marks s most (suc p) last v → (last ≡ Some Ended)
+            ⊎ (more ≤ v.channel.taken)
+        by p Moved e x = inr (counted p x e)
+        by p Ended e x = inl (x.answer ∙ ap (λ (a : ChanTurn). Some a) e)
+        by p (Waiting k) e x = inr (waits p k e x awake)
+        by p (Fault kind) e x = absurd
+            (call_fails c.start c.program c.work c.count marks c.first c.explains c.fits s v most (suc p) last kind misses r x
+            (x.answer ∙ ap (λ (a : ChanTurn). Some a) e))
 
 -- ---- that it finishes
 
 loaded : (program : List ℕ) (o : Option ProgramValue) → IsSomeAnd o (λ p. StartsWith p program) → is_some o ≡ true
-loaded program None b = absurd b
-loaded program (Some p) b = refl
+loaded program o h = grind (arith)
 
 module _ (c : Copying) (n : ℕ) where
   -- it isn't faulting, and has executed at least this many instructions
@@ -136,9 +147,7 @@ module _ (c : Copying) (n : ℕ) where
     goes = λ made th found g known sent goes.
         let count_is : th.channel.taken ≡ g.runs.0 = g.runs.1.taken in
         let long = known.enough in
-        let sees : (more ≤ least)
-        ⊎ ((more ≤ least + 1) × ((e : ℕ) → (w : IsWait c.start c.program c.count e) → w.step ≡ g.runs.0 → get_or (from k th).flags e false ≡ true)) =
-        elim can [
+        let sees : Sees c k.marks (from k th) (to k th) k.most (last_answer k th) least more g.runs long = elim can [
           | inl fewer ↦ inl fewer
           | inr w ↦ inr (
             w.0,
@@ -149,8 +158,8 @@ module _ (c : Copying) (n : ℕ) where
         ] in
         record {
           fine = call_fine c n k th (some made) fit g;
-          enough = elim (progress c.start c.program c.work c.count k.marks c.first c.explains c.fits (from k th) (to k th) k.most (count_in k th)
-              (last_answer k th) least more (some made) fit.misses g.runs long sees (steps_of k th)) [
+          enough = elim (progress c k.marks (from k th) (to k th) k.most (last_answer k th) least more g.runs long (count_in k th) (some made) fit.misses sees
+              (steps_of k th)) [
                 | inl ended ↦ absurd (goes ended)
                 | inr many ↦ omega (arith, ap (λ (v : ChannelValue). v.taken) (channel_after k th), many)
               ];
@@ -161,29 +170,10 @@ module _ (c : Copying) (n : ℕ) where
   abbrev pub IsTurn : DeviceValue → ℕ → ℕ → ℕ → Type 0
   IsTurn d most least more = (more ≤ least) ⊎ ((0 < most) × ((more ≤ least + 1) × Awake d least))
 
-  pub turn_reached : (d : DeviceValue) (regions : List Region) (most : ℕ) (e : DeviceValue) (left : List Region) (turn : Turn)
-      → TakesTurn d regions n most e left turn → (least more : ℕ) → IsTurn d most least more → Fit c n d (marks_in regions)
-      → Has c n (Unit {0}) (Reached least) (setup_of d regions) → Has c n (Unit {0}) (Reached more) (setup_of e left)
-  turn_reached d regions most e left turn x least more can fit g =
-      let one = one_of d regions n most in
-      let two = two_of d regions n most in
-      let off : (th : Thread) → slice_get d.threads n ≡ Some th → ¬ StepsThread one.made n one.before → runs_at d n ≡ true → more ≤ least =
-      (λ th found none up. elim can [
-        | inl fewer ↦ fewer
-        | inr ready ↦
-            let yes : one.made ≡ true = ap (λ (b : Bool). b && runs_at d n) (lt-ltb 0 most ready.0) ∙ up in
-            absurd (none (record { on = yes; thread = th; found = found }))
-      ]) in
-      let steps : CanStep d least more = elim can [ inl fewer ↦ inl fewer | inr ready ↦ inr ready.1 ] in
-      after_turn c n d regions most e left turn x (Unit {0}) (Reached least) (Unit {0}) (Reached more) (Unit {0}) (Reached more)
-      (steps_reached least more one off (λ made. ltb-true 0 most (and_parts (nat_lt 0 most) (runs_at d n) made).0) fit steps)
-      (steps_reached more more two (λ th found none up. omega arith) (λ made. omega arith) (fit_kept c n d regions most fit) (inl (omega arith))) g
-
 -- ---- CSR
 
 stopped_reads : (s : Status) (b : Bool) → is_stopped_status s ≡ true → (status_bits s + flag b * 2 ^ 21) % 16 ≡ 0
-stopped_reads Stopped b is = omega arith
-stopped_reads s b is = absurd (true≢false (sym is))
+stopped_reads s b h = grind (arith)
 
 pub csr_stopped : (d : DeviceValue) (n : ℕ) (th : Thread) → n < 8 → slice_get d.threads n ≡ Some th → is_stopped th ≡ true → csr_status d n ≡ 0
 csr_stopped d n th few is stopped = ap (λ (m : ℕ). m % 16) (read_csr d n few ∙ ap (of_thread csr) is) ∙ stopped_reads th.status th.nonsecure stopped
@@ -192,74 +182,72 @@ csr_stopped d n th few is stopped = ap (λ (m : ℕ). m % 16) (read_csr d n few 
 
 -- channels see a visible event
 pub visible_bit : (d : DeviceValue) (e : ℕ) → IsVisible d e → bit_at (visible_events d) e ≡ 1
-visible_bit d e see =
-    let line = see.0 in
-    let few : e < 32 = omega (arith, line.events, line.event) in
-    let off : bit_at d.inten e ≡ 0 = omega (arith, see.1.1, bit_at-lt d.inten e) in
-    omega (arith, seen_bit d e few line.inten, off, see.1.0)
+visible_bit d e see = grind (arith, bit_at-lt, seen_bit)
 
 -- it isn't faulting, and is early enough before turn number k by how many instructions it has executed
 pub record Ahead (Early : ℕ → ℕ → Type 0) (k : ℕ) (th : Thread) : Type 0 where
   pub fine : is_faulting th ≡ false
   pub ahead : Early k th.channel.taken
 
-module _ (go : Go) (work : Work) (count : ℕ) (run : GivenTurns) (h : RunsCopy go work count run) (some : 0 < run.count) where
+module _ (x : Drive) where
   abbrev c : Copying
-  c = copying go work count run h some
+  c = copying x
+
+  abbrev n : ℕ
+  n = x.go.channel
+
+  abbrev run : GivenTurns
+  run = x.run
 
   -- a thread that goes on has executed no more than the program has before its DMAEND
-  pub within_count : {image : List ℕ} {th : Thread} → Going c image th → th.channel.taken ≤ count
-  within_count {th = th} g =
-      let taken_is : th.channel.taken ≡ g.runs.0 = g.runs.1.taken in
-      omega (arith, taken_is, g.runs.1.within)
+  pub within_count : {image : List ℕ} {th : Thread} → Going c image th → th.channel.taken ≤ x.count
+  within_count {th = th} g = grind arith
 
-  awake : (j least : ℕ) → MayPass go count (run.before j) least → Awake c go.channel (run.before j) least
-  awake j least may th e wait is in_program long =
-      let d = run.before j in
-      let w = may th e wait is in_program long in
-      flag_of_bit (visible_events d) e (omega (arith, w.0.events, w.0.event)) (visible_bit d e w)
+  awake : (j least : ℕ) → MayPass x.go x.count (run.before j) least → Awake c n (run.before j) least
+  awake j least may th e wait is in_program long = grind (arith, flag_of_bit, visible_bit)
 
   -- turn number j leads from at least `least` instructions to at least `more`, and these are early enough after it
   pub record Counts (Early : ℕ → ℕ → Type 0) (j : ℕ) : Type 0 where
     pub least : ℕ
     pub more : ℕ
-    pub can : IsTurn c go.channel (run.before j) (run.most j) least more
-    pub reached : Before go work count run h some (Unit {0}) (Reached c go.channel least) j
-    pub ahead : (taken : ℕ) → more ≤ taken → taken ≤ count → Early (suc j) taken
+    pub can : IsTurn c n (run.before j) (run.most j) least more
+    pub reached : Before x (Unit {0}) (Reached c n least) j
+    pub ahead : (taken : ℕ) → more ≤ taken → taken ≤ x.count → Early (suc j) taken
 
   -- along the turns it is early enough
-  module _ (Early : ℕ → ℕ → Type 0) (fit : (k : ℕ) → k < run.count → IsFit go work count (run.before k) (run.lent k)) where
-    counted : (j : ℕ) → j < run.count → Counts Early j → After go work count run h some (Unit {0}) (Ahead Early (suc j)) j
+  module _ (Early : ℕ → ℕ → Type 0) (fit : (k : ℕ) → k < run.count → IsFit x.go x.work x.count (run.before k) (run.lent k)) where
+    counted : (j : ℕ) → j < run.count → Counts Early j → After x (Unit {0}) (Ahead Early (suc j)) j
     counted j less w =
-        let x = h.takes j less in
-        let after = turn_reached c go.channel (run.before j) (run.lent j) (run.most j) (run.after j) (run.left j) x.0 x.1 w.least w.more w.can
-        (fits_all go work count run h some j (fit j less)) w.reached in
-        record {
-          thread = after.thread;
-          is = after.is;
-          stands = elim after.stands [
-            | inl over ↦ inl over
-            | inr going ↦
-                let known = going.1 in
-                inr (going.0, record { fine = known.fine; ahead = w.ahead after.thread.channel.taken known.enough (within_count going.0) })
-          ];
-        }
+        let d = run.before j in
+        let most = run.most j in
+        let one = one_at x j in
+        let fits = fits_all x j (fit j less) in
+        let off : (th : Thread) → slice_get d.threads n ≡ Some th → ¬ StepsThread one.made n one.before → runs_at d n ≡ true → w.more ≤ w.least =
+        (λ th found none up. elim w.can [
+          | inl fewer ↦ fewer
+          | inr ready ↦
+              let yes : one.made ≡ true = ap (λ (b : Bool). b && runs_at d n) (lt-ltb 0 most ready.0) ∙ up in
+              absurd (none (record { on = yes; thread = th; found = found }))
+        ]) in
+        let steps : CanStep c n d w.least w.more = elim w.can [ inl fewer ↦ inl fewer | inr ready ↦ inr ready.1 ] in
+        let after = turned x j less
+        (steps_reached c n w.least w.more one off (λ made. ltb-true 0 most (and_parts (nat_lt 0 most) (runs_at d n) made).0) fits steps)
+        (steps_reached c n w.more w.more (two_at x j) (λ th found none up. omega arith) (λ made. omega arith) (fit_kept c n d (run.lent j) most fits)
+        (inl (omega arith))) w.reached in
+        weaker x j (λ o. o) (λ th going known. record { fine = known.fine; ahead = w.ahead th.channel.taken known.enough (within_count going) }) after
 
-    pub stays_ahead : ((j : ℕ) → j < run.count → Before go work count run h some (Unit {0}) (Ahead Early j) j → Counts Early j) → ((taken : ℕ) → Early 0 taken)
-        → (k : ℕ) → k < run.count → After go work count run h some (Unit {0}) (Ahead Early (suc k)) k
-    stays_ahead counts none k less =
-        along go work count run h some (λ j. Unit {0}) (Ahead Early) (record { fine = refl; ahead = none _ }) (λ j l g. counted j l (counts j l g)) k less
+    pub stays_ahead : ((j : ℕ) → j < run.count → Before x (Unit {0}) (Ahead Early j) j → Counts Early j) → ((taken : ℕ) → Early 0 taken)
+        → (k : ℕ) → k < run.count → After x (Unit {0}) (Ahead Early (suc k)) k
+    stays_ahead counts none =
+        along x (λ j. Unit {0}) (Ahead Early) (record { fine = refl; ahead = none _ }) (λ j l g. counted j l (counts j l g))
 
-  module _ (fit : (k : ℕ) → k < run.count → IsFit go work count (run.before k) (run.lent k)) (ready : ReadyTurns go count run) where
-    rises : (a b : ℕ) → a + b ≤ count → ready.turn a ≤ ready.turn (a + b)
+  module _ (fit : (k : ℕ) → k < run.count → IsFit x.go x.work x.count (run.before k) (run.lent k)) (ready : ReadyTurns x.go x.count run) where
+    rises : (a b : ℕ) → a + b ≤ x.count → ready.turn a ≤ ready.turn (a + b)
     rises a zero within = let e : a ≡ a + 0 = omega arith in subst (λ (m : ℕ). ready.turn a ≤ ready.turn m) e (omega arith)
-    rises a (suc b) within =
-        let e : a + b + 1 ≡ a + suc b = omega arith in
-        let next = subst (λ (m : ℕ). ready.turn (a + b) < ready.turn m) e (ready.rising (a + b) (omega (arith, within))) in
-        omega (arith, rises a b (omega (arith, within)), next)
+    rises a (suc b) within = grind (arith, rises a b (omega (arith, within)))
 
     -- a turn before a ready one is before the later ready ones
-    later_turn : (j a b : ℕ) → (a ≤ count → j < ready.turn a) → a ≤ b → b ≤ count → j < ready.turn b
+    later_turn : (j a b : ℕ) → (a ≤ x.count → j < ready.turn a) → a ≤ b → b ≤ x.count → j < ready.turn b
     later_turn j a b early less within =
         let e : a + (b - a) ≡ b = omega (arith, less) in
         let later = subst (λ (m : ℕ). ready.turn a ≤ ready.turn m) e (rises a (b - a) (omega (arith, e, within))) in
@@ -270,20 +258,19 @@ module _ (go : Go) (work : Work) (count : ℕ) (run : GivenTurns) (h : RunsCopy 
     abbrev Early : ℕ → ℕ → Type 0
     Early k taken = k ≤ ready.turn taken
 
-    counts : (j : ℕ) → Before go work count run h some (Unit {0}) (Ahead Early j) j → Counts Early j
-    counts j g = elim g.stands [
+    counts : (j : ℕ) → Before x (Unit {0}) (Ahead Early j) j → Counts Early j
+    counts j g = elim g.holds [
       | inl over ↦ record {
-        least = suc count;
-        more = suc count;
+        least = suc x.count;
+        more = suc x.count;
         can = inl (omega arith);
-        reached = record { thread = g.thread; is = g.is; stands = inl over };
+        reached = record { thread = g.thread; is = g.is; holds = inl over };
         ahead = λ t long within. absurd (omega (arith, long, within));
       }
       | inr going ↦
           let known = going.1 in
           let taken = g.thread.channel.taken in
-          let reached : Before go work count run h some (Unit {0}) (Reached c go.channel taken) j =
-          record { thread = g.thread; is = g.is; stands = inr (going.0, record { fine = known.fine; enough = omega arith }) } in
+          let reached : Before x (Unit {0}) (Reached c n taken) j = grind (arith) in
           let on = ready.ready taken (within_count going.0) in
           let early = known.ahead in
           elim (cases_eq (ready.turn taken) j) [
@@ -292,7 +279,7 @@ module _ (go : Go) (work : Work) (count : ℕ) (run : GivenTurns) (h : RunsCopy 
               more = taken + 1;
               can = inr (
                 subst (λ (k : ℕ). 0 < run.most k) same on.some,
-                (omega arith, subst (λ (k : ℕ). Awake c go.channel (run.before k) taken) same (awake (ready.turn taken) taken on.passes)),
+                (omega arith, subst (λ (k : ℕ). Awake c n (run.before k) taken) same (awake (ready.turn taken) taken on.passes)),
               );
               reached = reached;
               ahead = λ t. later_turn j (taken + 1) t (λ few. (let next = ready.rising taken (omega (arith, few)) in omega (arith, same, next)));
@@ -307,19 +294,19 @@ module _ (go : Go) (work : Work) (count : ℕ) (run : GivenTurns) (h : RunsCopy 
           ]
     ]
 
-    finishes : (k : ℕ) → ready.turn count ≤ k → k < run.count → csr_status (run.after k) go.channel ≡ 0
+    finishes : (k : ℕ) → ready.turn x.count ≤ k → k < run.count → csr_status (run.after k) n ≡ 0
     finishes k long less =
         let g = stays_ahead Early fit (λ j l. counts j) (λ t. omega arith) k less in
-        elim g.stands [
-          | inl over ↦ csr_stopped (run.after k) go.channel g.thread h.may_go.few g.is over.0.stopped
+        elim g.holds [
+          | inl over ↦ csr_stopped (run.after k) n g.thread x.copies.may_go.few g.is over.0.stopped
           | inr going ↦
               let early = going.1.ahead in
-              let last = later_turn k g.thread.channel.taken count (λ few. omega (arith, early)) (within_count going.0) (omega arith) in
+              let last = later_turn k g.thread.channel.taken x.count (λ few. omega (arith, early)) (within_count going.0) (omega arith) in
               absurd (omega (arith, long, last))
         ]
 
 pub dmago_finishes : DmagoFinishes
-dmago_finishes go work n run h fit ready k long less = finishes go work n run h (omega (arith, less)) fit ready k long less
+dmago_finishes go work n run h fit ready k long less = finishes (drive go work n run h k less) fit ready k long less
 
 -- ---- compiled programs
 

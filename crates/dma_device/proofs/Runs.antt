@@ -7,7 +7,7 @@ use Rattle.dma_mem.specs.{declared.regions.Region.Region, declared.segment.Segme
 use Rattle.dma_chan.specs.LentRegions.{segment_of}
 use Rattle.dma_device.specs.Accesses.{Access, Answer, AreAlike, Does, Happen, Turned}
 use Rattle.dma_device.specs.Run.{LentDevice, RunsStepByStep, StaysLent, lent_device, next, put_from, ram_of, run, turned_on, with_image}
-use Rattle.dma_device.specs.{declared.device.turns.Turn.Turn, Device.DeviceValue, Turns.Setup, Turns.TakesTurn}
+use Rattle.dma_device.specs.{declared.device.turns.Turn.Turn, Device.DeviceValue, Turns.TakesTurn}
 
 -- ---- the pieces of a memory
 
@@ -34,9 +34,7 @@ ram_is regions left places access = simp (put_is 0 regions left places, access)
 
 turned_is : (d : DeviceValue) (regions : List Region) (n most : ℕ) (e : DeviceValue) (left : List Region) (turn : Turn) → TakesTurn d regions n most e left turn
     → turned_on n most (lent_device d regions) ≡ (lent_device e left, Turned turn)
-turned_is d regions n most e left turn x =
-    ap (λ (p : Setup × Turn). let r : LentDevice × Answer = (record { device = p.0.device; ram = with_image p.0.image (ram_of regions) }, Turned p.1) in r) x.is
-    ∙ simp (ram_is regions left x.kept.places x.kept.read_only)
+turned_is d regions n most e left turn x = grind (arith, ram_is)
 
 abbrev pair : LentDevice → Answer → LentDevice × Answer
 pair b a = (b, a)
@@ -55,12 +53,7 @@ board_at : (access : ℕ → Access) (answer : ℕ → Answer) (before : ℕ →
     → Happen access answer before lent left count → StaysLent lent left count → (k : ℕ) → k ≤ count
     → lent_device (before k) (lent k) ≡ run access (lent_device (before 0) (lent 0)) k
 board_at access answer before lent left count x stays zero within = refl
-board_at access answer before lent left count x stays (suc k) within =
-    let e : k + 1 ≡ suc k = omega arith in
-    ap (λ (m : ℕ). lent_device (before m) (lent m)) (sym e)
-    ∙ sym (alike_is (before (k + 1)) (before (k + 1)) (left k) (lent (k + 1)) refl (stays k (omega arith)))
-    ∙ sym (ap (λ (p : LentDevice × Answer). p.0) (does_is (access k) (before k) (lent k) (answer k) (before (k + 1)) (left k) (x k (omega arith))))
-    ∙ ap (λ (b : LentDevice). (next (access k) b).0) (board_at access answer before lent left count x stays k (omega arith))
+board_at access answer before lent left count x stays (suc k) within = grind (arith, alike_is, does_is, board_at access answer before lent left count x stays k (omega arith))
 
 pub runs_step_by_step : RunsStepByStep
 runs_step_by_step access answer before lent left count x stays =

@@ -1,5 +1,5 @@
 -- What is read from the bytes of a save is what was written there, and the parts of the save of a device.
-use Rattle.std.proofs.Common.{◌≡◌, ◌∙◌, ℕ, ◌+◌, ◌-◌, ◌<◌, ◌≤◌, ◌++◌, true, false, List, length, take, drop, get_or, ap, refl, sym, arith, append_assoc, suc}
+use Rattle.std.proofs.Common.{◌≡◌, ◌∙◌, ℕ, ◌+◌, ◌-◌, ◌<◌, ◌≤◌, ◌++◌, true, List, length, take, drop, get_or, ap, refl, sym, arith, append_assoc, suc}
 use Rattle.std.proofs.Common.{◌*◌, ◌%◌, ◌/◌, ◌^◌, Bool, eqb, append-nil, add-one, subst}
 use Rattle.std.proofs.lemmas.List.{drop_at, length-append, drop-drop, drop_all, length-drop, length-take, take-append-drop, take_all, take_at}
 use Rattle.std.proofs.{Math.Seq.drop-cons, Math.Seq.take-suc, lemmas.List.Concat.flat_map-append, lemmas.Nat.from_le_bytes-to_le_bytes_4}
@@ -33,15 +33,7 @@ pub record HasFieldsOf (h : Head) (bytes : List ℕ) : Type 0 where
 
 written : (h : Head) (rest : List ℕ) → HasHeadRanges h → HasFieldsOf h (head_bytes h ++ rest)
 unfolding head_bytes
-written h rest r = record {
-  is_faulting = refl;
-  fault = from_le_bytes-to_le_bytes_4 h.manager.fault r.fault;
-  events = from_le_bytes-to_le_bytes_4 h.events r.events;
-  interrupts = from_le_bytes-to_le_bytes_4 h.interrupts r.interrupts;
-  inten = from_le_bytes-to_le_bytes_4 h.inten r.inten;
-  dbginst0 = from_le_bytes-to_le_bytes_4 h.dbginst0 r.dbginst0;
-  dbginst1 = from_le_bytes-to_le_bytes_4 h.dbginst1 r.dbginst1;
-}
+written h rest r = grind (arith, from_le_bytes-to_le_bytes_4)
 
 -- Bytes that begin with a head have its fields.
 pub head_fields : (h : Head) (rest bytes : List ℕ) → HasHeadRanges h → bytes ≡ head_bytes h ++ rest → HasFieldsOf h bytes
@@ -63,8 +55,7 @@ status_few events t s h1 h2 = grind (arith, ltb-true)
 
 csr_parts : (bits : ℕ) (b : Bool) → bits < 2 ^ 9 → ((bits + flag b * 2 ^ 21) % 512 ≡ bits)
     × (((bits + flag b * 2 ^ 21) / 2 ^ 21 % 2 ≡ flag b) × (bits + flag b * 2 ^ 21 < 2 ^ 32))
-csr_parts bits true few = (omega arith, (omega arith, omega arith))
-csr_parts bits false few = (omega arith, (omega arith, omega arith))
+csr_parts bits b h = grind (arith)
 
 -- The bytes have a thread's fields at their offsets, and the length of its channel's save.
 pub record HasThread (t : Thread) (bytes : List ℕ) : Type 0 where
@@ -119,8 +110,7 @@ thread_found events t rest bytes few v e =
 
 -- bit 21 of CSR is read as the flag
 pub bit_back : (b : Bool) → eqb (flag b) 1 ≡ b
-bit_back true = refl
-bit_back false = refl
+bit_back b = grind (arith)
 
 -- ---- threads in a row
 
@@ -144,10 +134,7 @@ front_length {X} a xs ys fits = grind (arith, length-take, put_tail, take_at)
 -- One more part is written behind those that are written.
 pub written_more : (at len : ℕ) (parts part out old new : List ℕ) → at ≤ length out → at ≡ length parts → out ≡ parts ++ drop at old
     → new ≡ part ++ drop len (take (length out - at) (drop at out)) → put_mid at (length out - at) out new ≡ (parts ++ part) ++ drop (at + len) old
-written_more at len parts part out old new fits is before after =
-    let front : take at out ≡ parts = ap (take at) before ∙ take_at parts (drop at old) at (sym is) in
-    let back : drop at out ≡ drop at old = ap (drop at) before ∙ drop_at parts (drop at old) at (sym is) in
-    put_tail at out new fits ∙ simp (front, after, tail_is at out ∙ back, drop-drop, append_assoc)
+written_more at len parts part out old new fits is before after = grind (arith, take_at, drop_at, put_tail, tail_is, drop-drop, append_assoc)
 
 -- the list at place n of those that are joined is behind those before it
 pub part_at : {X Y : Type 0} → (f : X → List Y) (xs : List X) (n at : ℕ) (all : List Y) (x : X) → n < length xs → all ≡ flat_map f xs

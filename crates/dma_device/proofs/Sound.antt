@@ -1,19 +1,19 @@
 -- What each thread satisfies after a call too: its status goes with its program, and the beats of its control word are
 -- no wider than its bus. And events stay among those of the device.
-use Rattle.std.proofs.Common.{◌≡◌, ◌∙◌, ℕ, zero, suc, ◌+◌, ◌-◌, ◌*◌, ◌%◌, ◌^◌, ◌<◌, ◌≤◌, Bool, true, false, List, Option, Some, None, ap, get_or, inl, inr}
+use Rattle.std.proofs.Common.{◌≡◌, ◌∙◌, ℕ, zero, suc, ◌+◌, ◌-◌, ◌*◌, ◌%◌, ◌^◌, ◌<◌, ◌≤◌, Bool, true, List, Option, Some, None, ap, get_or, inl, inr}
 use Rattle.std.proofs.Common.{length, refl, replicate, sym, subst, arith, bit_and, Result}
 use Rattle.std.specs.{Prelude.is_some, Prelude.nat_le, Prelude.nat_lt, Prelude.slice_set, Prelude.if◌then◌else◌, List.All, Vec.with_item, Vec.with_items}
-use Rattle.std.proofs.lemmas.Bool.{and_parts, cases_eq, cond_both, eq-eqb, leb-true, lt-ltb}
-use Rattle.std.proofs.lemmas.List.{drop_all, get_or-set_other, get_or-set_same, length-set, with_items_is}
+use Rattle.std.proofs.lemmas.Bool.{and_parts, cases_lt, cond_both, eq-eqb, leb-true, lt-ltb}
+use Rattle.std.proofs.lemmas.List.{drop_all, length-set, set_past, with_items_is}
 use Rattle.std.proofs.lemmas.Nat.{and_le_l, and_le_r, pow_pos}
 use Rattle.std.proofs.{Math.Nat.mod-le, Math.Pow.pow-lt, Math.Pow.pow_mono, lemmas.List.Elements.All-replicate, lemmas.List.Elements.All-set}
 use Rattle.dma_mem.specs.Marking.{MarkList}
-use Rattle.dma_chan.specs.Channel.{ChannelValue, after_turn, ahead_of, last_count, state_of, step_of, stored_by}
+use Rattle.dma_chan.specs.Channel.{ChannelValue, after_turn, ahead_of, last_count, step_of, stored_by}
 use Rattle.dma_chan.specs.Stepping.{Machine, TakesSteps, after_step, after_steps, answer_at, goes_on_after}
 use Rattle.dma_chan.specs.declared.turn.ChanTurn.TheVariants.{Moved, Waiting, Fault}
 use Rattle.dma_chan.specs.{declared.bus.BusWidth.BusWidth, Programs.ProgramValue, declared.turn.ChanTurn.ChanTurn}
 use Rattle.dma_chan.specs.{declared.turn.FaultKind.TheVariants.InstrFetchErr, declared.bus.Bus.Bus, declared.bus.Bus.TheVariants.Chip}
-use Rattle.dma_chan.specs.{declared.bus.BusWidth.TheVariants.Bits32, declared.exec.Registers.Registers, declared.turn.FaultKind.FaultKind, Bus.fits}
+use Rattle.dma_chan.specs.{declared.exec.Registers.Registers, declared.turn.FaultKind.FaultKind, Bus.fits}
 use Rattle.dma_chan.proofs.{StepsTaken.steps_counted, StepsTaken.steps_move, SteppedOver.was_moved, SteppedOver.went_before, SteppedOver.is_still}
 use Rattle.dma_chan.proofs.{ActCases.IsAccepted, ActCases.fetched_cases, BusKept.steps_bus, MembersByNumber.ccr_looped}
 use Rattle.dma_device.specs.Thread.{IsOn, IsSound, answer, answered, failed, is_before_wait, moved, operand_invalid, reset_thread, waits_for}
@@ -28,8 +28,7 @@ use Rattle.dma_chan.specs.Exec.{State, exec_fetched, moved as moved_registers, C
 
 -- CCR after a reset
 starts_fit : (bus : BusWidth) → fits (Chip bus) 0x00800200 ≡ true
-starts_fit Bits32 = refl
-starts_fit bus = refl
+starts_fit bus = grind (arith)
 
 pub reset_is_on : (bus : BusWidth) → IsOn bus (reset_thread bus)
 reset_is_on bus = record { width = refl; control = starts_fit bus }
@@ -48,8 +47,7 @@ fetched_fits marks next s = grind (arith, fetched_cases, moved_fits)
 
 turn_fits : (bus : Bus) (turn : ChanTurn) (s : State) (n : ℕ) (c : ChannelValue) → fits bus s.registers.ccr ≡ true → fits bus c.registers.ccr ≡ true
     → fits bus (after_turn turn s n c).registers.ccr ≡ true
-turn_fits bus Moved s n c new old = new
-turn_fits bus turn s n c new old = old
+turn_fits bus turn s n c h h2 = grind (arith)
 
 pub steps_fit : (bus : Bus) (marks : MarkList) (s : Machine) (n : ℕ) → s.channel.registers.bus ≡ bus → fits bus s.channel.registers.ccr ≡ true
     → fits bus (after_steps marks s n).channel.registers.ccr ≡ true
@@ -60,8 +58,7 @@ steps_fit bus marks s (suc n) on h =
     let x = step_of marks c u.image u.flags in
     let old : fits bus c.registers.ccr ≡ true = steps_fit bus marks s n on h in
     let here : c.registers.bus ≡ bus = steps_bus marks s n ∙ on in
-    let new : fits c.registers.bus x.1.registers.ccr ≡ true =
-    fetched_fits marks (ahead_of c) (state_of c u.image u.flags) (ap (λ (b : Bus). fits b c.registers.ccr) here ∙ old) in
+    let new : fits c.registers.bus x.1.registers.ccr ≡ true = grind (arith, fetched_fits) in
     turn_fits bus x.0 x.1 (stored_by (ahead_of c) c.registers) c (ap (λ (b : Bus). fits b x.1.registers.ccr) (sym here) ∙ new) old
 
 -- ---- a thread after a call
@@ -71,8 +68,7 @@ moved_sound events t signal h1 = grind (arith, cond_both)
 
 waits_sound : (events e : ℕ) (t : Thread) (b : Bool) → nat_lt e events ≡ b → is_some t.channel.program ≡ true → is_before_wait e t ≡ true
     → IsSound events (if b then record t { status = WaitingForEvent e } else failed operand_invalid t)
-waits_sound events e t true less loaded before = rw (loaded, less) before
-waits_sound events e t false less loaded before = refl
+waits_sound events e t b h h2 h3 = grind (arith)
 
 -- after a step of a channel that has a program
 by_turn : (events : ℕ) (t : Thread) (turn : ChanTurn) (signal : Option ℕ) (s : State) (n : ℕ) (c : ChannelValue) → is_some c.program ≡ true
@@ -113,8 +109,7 @@ waits_before marks u t e waits is counts pc =
 -- A thread is sound after a call of its channel, by whether that has a program.
 by_program : (marks : MarkList) (s v : Machine) (most taken events : ℕ) (last : Option ChanTurn) (t : Thread) (signal : Option ℕ) (o : Option ProgramValue)
     → s.channel.program ≡ o → TakesSteps marks s most taken last v → t.channel ≡ v.channel → IsSound events (answered events t last signal)
-by_program marks s v most zero events last t signal o program x is =
-    subst (λ (l : Option ChanTurn). IsSound events (answered events t l signal)) (sym x.answer) refl
+by_program marks s v most zero events last t signal o program x is = grind arith
 by_program marks s v most (suc j) events last t signal (Some p) program x is =
     let u = after_steps marks s j in
     let here = ap (λ (q : Option ProgramValue). is_some q) (program_kept marks s j (steps_move x) ∙ program) in
@@ -122,9 +117,7 @@ by_program marks s v most (suc j) events last t signal (Some p) program x is =
     subst (λ (l : Option ChanTurn). IsSound events (answered events t l signal)) (sym x.answer)
     (by_turn events (record t { pc = (t.base + t.channel.registers.pc) % 2 ^ 32 }) (answer_at marks u) signal _ _ u.channel here ends
     (λ e waits. waits_before marks u (record t { pc = (t.base + t.channel.registers.pc) % 2 ^ 32 }) e waits ends (steps_counted x j (omega arith)) refl))
-by_program marks s v most (suc zero) events last t signal None program x is =
-    subst (λ (l : Option ChanTurn). IsSound events (answered events t l signal))
-    (sym (x.answer ∙ ap (λ (a : ChanTurn). Some a) (unloaded_fails marks s program))) refl
+by_program marks s v most (suc zero) events last t signal None program x is = grind (arith, unloaded_fails)
 by_program marks s v most (suc (suc j)) events last t signal None program x is =
     let fails = unloaded_fails marks s program in
     absurd (cc (was_moved (ahead_of s.channel) (answer_at marks s) (went_before marks s 1 (steps_move x 1 (omega arith))), fails))
@@ -194,14 +187,9 @@ reset_on bus n = All-replicate (IsOn bus) n (reset_thread bus) (reset_is_on bus)
 on_kept : (bus : BusWidth) (ts : List Thread) (n : ℕ) (old new : Thread) → AreOn bus ts → old ≡ get_or ts n old → (IsOn bus old → IsOn bus new)
     → AreOn bus (slice_set ts n new)
 unfolding AreOn
-on_kept bus ts n old new h is kept = λ k d less. elim (cases_eq k n) [
-  | inl here ↦
-      let within : n < length ts = omega (arith, length-set ts n new, here, less) in
-      let there : get_or (slice_set ts n new) k d ≡ new = ap (λ (j : ℕ). get_or (slice_set ts n new) j d) here ∙ get_or-set_same ts n new d within in
-      subst (IsOn bus) (sym there) (kept (subst (IsOn bus) (sym is) (h n old within)))
-  | inr other ↦
-      let within : k < length ts = omega (arith, length-set ts n new, less) in
-      subst (IsOn bus) (sym (get_or-set_other ts n k new d other)) (h k d within)
+on_kept bus ts n old new h is kept = elim (cases_lt n (length ts)) [
+  | inl within ↦ All-set (IsOn bus) ts n new (kept (subst (IsOn bus) (sym is) (h n old within))) h
+  | inr past ↦ subst (All (IsOn bus)) (sym (set_past ts n new past)) h
 ]
 
 -- a thread is replaced by one on its bus

@@ -1,12 +1,12 @@
 -- What a read of CSR returns, and the thread that a DMAGO starts.
-use Rattle.std.proofs.Common.{◌≡◌, ◌∙◌, ℕ, suc, ◌+◌, ◌*◌, ◌%◌, ◌^◌, ◌<◌, Bool, true, false, List, get_or, Some, ap, refl, sym, arith, ◌≢◌, true≢false}
+use Rattle.std.proofs.Common.{◌≡◌, ◌∙◌, ℕ, suc, ◌+◌, ◌*◌, ◌%◌, ◌^◌, ◌<◌, Bool, true, false, List, get_or, Some, ap, refl, arith, ◌≢◌}
 use Rattle.std.specs.Prelude.{slice_get}
 use Rattle.std.proofs.lemmas.Option.{slice_get-get_or}
 use Rattle.dma_insn.specs.ControlWord.{field, flag}
 use Rattle.dma_mem.specs.Regions.{Piece}
 use Rattle.dma_device.specs.Thread.{is_faulting, is_faulting_status, is_stopped, is_stopped_status, reset_thread, started, status_bits}
 use Rattle.dma_device.specs.{Dmago.Go, Dmago.MayGo, Dmago.csr_status, Dmago.started_by, declared.thread.Status.Status}
-use Rattle.dma_device.specs.{declared.thread.Status.TheVariants.Stopped, declared.thread.Status.TheVariants.Faulting, declared.thread.Thread.Thread}
+use Rattle.dma_device.specs.{declared.thread.Thread.Thread}
 use Rattle.dma_device.proofs.{FlagNumber.flag_few, Found.set_found}
 use Rattle.dma_device.specs.Offsets as offset
 use Rattle.dma_device.specs.Device.{DeviceValue, by_manager, csr, go as executes_go, of_thread, read_at, program_at, with_thread}
@@ -18,16 +18,14 @@ read_csr d (suc (suc (suc (suc (suc (suc (suc (suc n)))))))) h = absurd (omega a
 read_csr d n h = refl
 
 stopped_by : (s : Status) (b : Bool) → (status_bits s + flag b * 2 ^ 21) % 16 ≡ 0 → is_stopped_status s ≡ true
-stopped_by Stopped b h = refl
-stopped_by s b h = absurd (omega arith)
+stopped_by s b h = grind (arith)
 
 -- a thread whose CSR reads as stopped is stopped
 pub reads_stopped : (d : DeviceValue) (n : ℕ) (th : Thread) → n < 8 → slice_get d.threads n ≡ Some th → csr_status d n ≡ 0 → is_stopped th ≡ true
 reads_stopped d n th few is h = grind (arith, read_csr, stopped_by)
 
 fine_by : (s : Status) (b : Bool) → is_faulting_status s ≡ false → (status_bits s + flag b * 2 ^ 21) % 16 ≢ 15
-fine_by Faulting b h e = absurd (true≢false h)
-fine_by s b h e = absurd (omega arith)
+fine_by s b h = grind (arith)
 
 -- the CSR of a thread that isn't faulting doesn't read so
 pub reads_fine : (d : DeviceValue) (n : ℕ) (th : Thread) → n < 8 → slice_get d.threads n ≡ Some th → is_faulting th ≡ false → csr_status d n ≢ 15
@@ -35,8 +33,7 @@ reads_fine d n th few is fine e = grind (arith, fine_by, read_csr)
 
 -- a stopped thread isn't faulting
 pub stopped_fine : (s : Status) → is_stopped_status s ≡ true → is_faulting_status s ≡ false
-stopped_fine Faulting is = absurd (true≢false (sym is))
-stopped_fine s is = refl
+stopped_fine s h = grind (arith)
 
 pub read_ftr : (d : DeviceValue) (n : ℕ) → n < 8 → read_at d (offset.ftr + 4 * n) ≡ of_thread (λ t. t.fault) (slice_get d.threads n)
 read_ftr d (suc (suc (suc (suc (suc (suc (suc (suc n)))))))) h = absurd (omega arith)
@@ -47,8 +44,7 @@ read_cpc d (suc (suc (suc (suc (suc (suc (suc (suc n)))))))) h = absurd (omega a
 read_cpc d n h = refl
 
 faulting_by : (s : Status) (b : Bool) → is_faulting_status s ≡ true → (status_bits s + flag b * 2 ^ 21) % 16 ≡ 15
-faulting_by Faulting b h = omega arith
-faulting_by s b h = absurd (true≢false (sym h))
+faulting_by s b h = grind (arith)
 
 -- the CSR of a thread that is faulting reads so
 pub reads_faulting : (d : DeviceValue) (n : ℕ) (th : Thread) → n < 8 → slice_get d.threads n ≡ Some th → is_faulting th ≡ true → csr_status d n ≡ 15
@@ -64,8 +60,7 @@ abbrev written_both : Bool → ℕ → ℕ → DeviceValue → DeviceValue
 written_both nonsecure n addr d = record d { dbginst0 = word nonsecure n; dbginst1 = addr }
 
 flag_clear : (b : Bool) → flag b ≡ 0 → b ≡ false
-flag_clear true h = absurd (omega arith)
-flag_clear false h = refl
+flag_clear b h = grind (arith)
 
 -- what the manager does
 by_opcode : (ram : List Piece) (nonsecure : Bool) (n : ℕ) (e : DeviceValue) → e.manager.is_faulting ≡ false

@@ -1,9 +1,9 @@
 -- A turn of a thread that can step changes the device.
-use Rattle.std.proofs.Common.{◌≡◌, ◌≢◌, ◌∙◌, ◌⊎◌, ℕ, zero, suc, ◌+◌, ◌%◌, ◌^◌, ◌<◌, ◌≤◌, Bool, true, false, ◌&&◌, List, get_or, Option, Some, None, Result, Ok}
+use Rattle.std.proofs.Common.{◌≡◌, ◌≢◌, ◌∙◌, ◌⊎◌, ℕ, zero, suc, ◌+◌, ◌%◌, ◌^◌, ◌<◌, ◌≤◌, Bool, true, false, ◌&&◌, List, get_or, Option, Some, None, Result}
 use Rattle.std.proofs.Common.{ap, refl, sym, subst, arith, inl, inr, true≢false}
 use Rattle.std.specs.{Prelude.nat_eq, Prelude.nat_lt, Prelude.slice_get, Int.bit_at}
 use Rattle.std.proofs.lemmas.Bool.{and_parts, lt-ltb}
-use Rattle.dma_insn.specs.{declared.chip.ChipInsn.ChipInsn, declared.chip.ChipInsn.TheVariants.Sev}
+use Rattle.dma_insn.specs.{declared.chip.ChipInsn.ChipInsn}
 use Rattle.dma_mem.specs.{Flags.flags_of, Marking.MarkList}
 use Rattle.dma_mem.proofs.FlagBits.{get_or_flags_of}
 use Rattle.dma_chan.specs.Channel.{ChannelValue, after_turn, ahead_of, state_of, step_of, stored_by}
@@ -11,13 +11,12 @@ use Rattle.dma_chan.specs.Stepping.{Machine, TakesSteps, after_step, after_steps
 use Rattle.dma_chan.specs.declared.turn.ChanTurn.TheVariants.{Moved, Waiting, Ended, Fault}
 use Rattle.dma_chan.specs.{Exec.State, Exec.exec_fetched, declared.turn.ChanTurn.ChanTurn, declared.turn.FaultKind.FaultKind}
 use Rattle.dma_chan.proofs.{StepsTaken.steps_move, SteppedOver.was_moved, SteppedOver.went_before}
-use Rattle.dma_device.specs.Turns.{Outcome, Setup, begins, called_if, follows, machine_in, raises, runs_at, setup_of, steps_in, visible_events}
+use Rattle.dma_device.specs.Turns.{Outcome, Setup, begins, called_if, follows, machine_in, runs_at, setup_of, steps_in, visible_events}
 use Rattle.dma_device.specs.{declared.thread.Status.TheVariants.Faulting, declared.thread.Status.TheVariants.WaitingForEvent, declared.thread.Thread.Thread}
 use Rattle.dma_device.specs.{CallSteps.StepsThread, CallSteps.first_in, CallSteps.last_in, CallSteps.marks_in, CallSteps.signal_in, Device.DeviceValue}
 use Rattle.dma_device.specs.{Idle.TurnChanges, Thread.answer, Thread.can_step, Thread.is_signalled, Thread.runs, Thread.waited}
-use Rattle.dma_device.proofs.Calls.{call_acts, call_is, machine_left, runs_found, takes, thread_left, turn_device}
+use Rattle.dma_device.proofs.Calls.{call_acts, call_keeps, machine_left, runs_found, takes, thread_left, turn_device}
 use Rattle.dma_device.proofs.{Answered.answer_channel, FlagSteps.waits_at, Found.set_found}
-use borrow.Author.Tests.{ltb-true}
 
 -- ---- the count of instructions
 
@@ -37,8 +36,7 @@ turn_rises : (turn : ChanTurn) (s : State) (n : ℕ) (c : ChannelValue) → (tur
 turn_rises turn s n c is = grind arith
 
 step_rises : (marks : MarkList) (s : Machine) → (answer_at marks s ≡ Moved) ⊎ (answer_at marks s ≡ Ended) → s.channel.taken < (after_step marks s).channel.taken
-step_rises marks s is = turn_rises (answer_at marks s) (step_of marks s.channel s.image s.flags).1 (stored_by (ahead_of s.channel) s.channel.registers)
-    s.channel is
+step_rises marks s is = grind (arith, turn_rises)
 
 pub all_rise : (marks : MarkList) (s : Machine) (j : ℕ) → answer_at marks s ≡ Moved → s.channel.taken < (after_steps marks s (suc j)).channel.taken
 all_rise marks s zero moved = step_rises marks s (inl moved)
@@ -47,8 +45,7 @@ all_rise marks s (suc j) moved = omega (arith, all_rise marks s j moved, step_co
 -- ---- a step that doesn't move sets no flag
 
 silent : (marks : MarkList) (next : Result ChipInsn FaultKind) (s : State) → (exec_fetched marks next s).0 ≢ Moved → signal_of next ≡ None
-silent marks (Ok (Sev e)) s other = absurd (other refl)
-silent marks next s other = refl
+silent marks next s h = grind (arith)
 
 -- ---- a call
 
@@ -57,8 +54,7 @@ fine_status t on is = grind arith
 
 waited_is : (events : ℕ) (t : Thread) (e : ℕ) (b : Bool) → nat_lt e events ≡ b → ((waited events t e).status ≡ Faulting)
     ⊎ (((waited events t e).status ≡ WaitingForEvent e) × (e < events))
-waited_is events t e true less = inr (rw less refl, ltb-true e events less)
-waited_is events t e false less = inl (rw less refl)
+waited_is events t e b h = grind (arith)
 
 -- what a call makes of a thread: more instructions are counted, or it has another status and set no flag
 abbrev Differs : Thread → Thread → Option ℕ → Type 0
@@ -71,12 +67,9 @@ taken c = c.taken
 by_turn : (events seen : ℕ) (t at : Thread) (s : Machine) (marks : MarkList) (turn : ChanTurn) → events ≤ 32 → can_step seen t ≡ true → s.channel ≡ t.channel
     → s.flags ≡ flags_of seen → at.channel ≡ (after_step marks s).channel → answer_at marks s ≡ turn
     → Differs t (answer events at (Some turn) (signal_of (ahead_of s.channel))) (signal_of (ahead_of s.channel))
-by_turn events seen t at s marks Moved few can same flags is answers =
-    inl (omega (arith, step_rises marks s (inl answers), ap taken same, ap taken (answer_channel events at (Some Moved) (signal_of (ahead_of s.channel)) ∙ is)))
+by_turn events seen t at s marks Moved few can same flags is answers = grind (arith, step_rises, answer_channel)
 by_turn events seen t at s marks Ended few can same flags is answers = inl (omega (arith, step_rises marks s (inr answers), ap taken same, ap taken is))
-by_turn events seen t at s marks (Fault kind) few can same flags is answers =
-    let on = (and_parts (runs t) (is_signalled seen t.status) can).0 in
-    inr ((λ e. fine_status t on (sym e)), silent marks (ahead_of s.channel) (state_of s.channel s.image s.flags) (λ moved. cc (moved, answers)))
+by_turn events seen t at s marks (Fault kind) few can same flags is answers = grind (arith, and_parts, fine_status, silent)
 by_turn events seen t at s marks (Waiting e) few can same flags is answers =
     let parts = and_parts (runs t) (is_signalled seen t.status) can in
     let quiet = silent marks (ahead_of s.channel) (state_of s.channel s.image s.flags) (λ moved. cc (moved, answers)) in
@@ -95,13 +88,8 @@ by_turn events seen t at s marks (Waiting e) few can same flags is answers =
 by_steps : (events seen : ℕ) (t at : Thread) (s v : Machine) (marks : MarkList) (most taken : ℕ) (last : Option ChanTurn) (signal : Option ℕ) → events ≤ 32
     → can_step seen t ≡ true → s.channel ≡ t.channel → s.flags ≡ flags_of seen → at.channel ≡ v.channel → signal ≡ signal_after marks s taken
     → TakesSteps marks s most taken last v → Differs t (answer events at last signal) signal
-by_steps events seen t at s v marks most zero last signal few can same flags is sets x =
-    subst (λ (l : Option ChanTurn). Differs t (answer events at l signal) signal) (sym x.answer)
-    (inr ((λ e. fine_status t ((and_parts (runs t) (is_signalled seen t.status) can).0) (sym e)), sets))
-by_steps events seen t at s v marks most (suc zero) last signal few can same flags is sets x =
-    subst (λ (l : Option ChanTurn). Differs t (answer events at l signal) signal) (sym x.answer)
-    (subst (λ (o : Option ℕ). Differs t (answer events at (Some (answer_at marks s)) o) o) (sym sets)
-    (by_turn events seen t at s marks (answer_at marks s) few can same flags (is ∙ ap (λ (m : Machine). m.channel) x.ends_at) refl))
+by_steps events seen t at s v marks most zero last signal few can same flags is sets x = grind (arith, fine_status, and_parts)
+by_steps events seen t at s v marks most (suc zero) last signal few can same flags is sets x = grind (arith, by_turn)
 by_steps events seen t at s v marks most (suc (suc j)) last signal few can same flags is sets x =
     let up = all_rise marks s (suc j) (was_moved (ahead_of s.channel) (answer_at marks s) (went_before marks s 1 (steps_move x 1 (omega arith)))) in
     let new = ap (λ (c : ChannelValue). c.taken) (answer_channel events at last signal ∙ is ∙ ap (λ (m : Machine). m.channel) x.ends_at) in
@@ -127,6 +115,10 @@ call_keeps_count marks most t s = grind (arith, answer_channel, never_falls)
 same_in : (d e : DeviceValue) (n : ℕ) (t u : Thread) → e ≡ d → slice_get d.threads n ≡ Some t → slice_get e.threads n ≡ Some u → u ≡ t
 same_in d e n t u same found there = cc (ap (λ (v : DeviceValue). slice_get v.threads n) same)
 
+-- thread n has counted more instructions than this one
+abbrev Counted : ℕ → Thread → DeviceValue → Type 0
+Counted n t d = (w : Thread) × (slice_get d.threads n ≡ Some w) × (t.channel.taken < w.channel.taken)
+
 pub turn_changes : TurnChanges
 turn_changes d e regions left n most turn t x h found can some same =
     let marks = marks_in regions in
@@ -138,29 +130,21 @@ turn_changes d e regions left n most turn t x h found can some same =
     let one : StepsThread (begins d n most) n s = record { on = starts; thread = t; found = found } in
     let u = thread_left marks most t s in
     let there : slice_get m.threads n ≡ Some u = call_found marks n most s (begins d n most) one in
-    let differs = call_differs marks most t s h.few can in
-    elim (call_is (follows m n first.called) marks n 1 first.left) [
-      | inl rests ↦
-          let back = same_in d e n t u same found
-          (ap (λ (w : DeviceValue). slice_get w.threads n) (sym (turn_device x)) ∙ ap (λ (o : Outcome). slice_get o.left.device.threads n) rests.is
-          ∙ there) in
-          elim differs [
-            | inl up ↦ let old = ap (λ (w : Thread). w.channel.taken) back in absurd (omega (arith, up, old))
-            | inr other ↦ other.0 (ap (λ (w : Thread). w.status) back)
-          ]
-      | inr two ↦
-          elim differs [
-            | inl up ↦
-                let w = two.thread in
-                let mid : w ≡ u = cc (two.found, there) in
-                let z = thread_left marks 1 w first.left in
-                let back = same_in d e n t z same found
-                (ap (λ (v : DeviceValue). slice_get v.threads n) (sym (turn_device x)) ∙ call_found marks n 1 first.left (follows m n first.called) two) in
-                let new = ap (λ (k : Thread). k.channel.taken) mid in
-                absurd (omega (arith, up, call_keeps_count marks 1 w first.left, ap (λ (k : Thread). k.channel.taken) back, new))
-            | inr other ↦
-                let raised = (and_parts (raises m first.called.signal) _ two.on).0 in
-                let none : first.called.signal ≡ None = ap (λ (o : Outcome). o.called.signal) (call_acts marks most one) ∙ other.1 in
-                true≢false (sym raised ∙ ap (raises m) none)
-          ]
+    elim (call_differs marks most t s h.few can) [
+      | inl up ↦
+          let more = subst (Counted n t) (turn_device x)
+          (call_keeps (Counted n t) (follows m n first.called) marks n 1 first.left (u, there, up) (λ two.
+          let w = two.thread in
+          let z = thread_left marks 1 w first.left in
+          let mid : w ≡ u = cc (two.found, there) in
+          let grown = call_keeps_count marks 1 w first.left in
+          (z, set_found m.threads n w z two.found, omega (arith, up, grown, ap (λ (k : Thread). k.channel.taken) mid)))) in
+          let back = same_in d e n t more.0 same found more.1 in
+          absurd (omega (arith, more.2, ap (λ (k : Thread). k.channel.taken) back))
+      | inr other ↦
+          let none : first.called.signal ≡ None = ap (λ (o : Outcome). o.called.signal) (call_acts marks most one) ∙ other.1 in
+          let off : follows m n first.called ≡ false = grind (arith) in
+          let rests = ap (λ (b : Bool). slice_get (called_if b marks n 1 first.left).left.device.threads n) off in
+          other.0 (ap (λ (w : Thread). w.status)
+          (same_in d e n t u same found (ap (λ (v : DeviceValue). slice_get v.threads n) (sym (turn_device x)) ∙ rests ∙ there)))
     ]

@@ -10,26 +10,18 @@ use Rattle.dma_explain.specs.{Explains.Explains, Explains.GoesOn, Explains.next_
 use Rattle.dma_device.specs.Board.{CopiesOn, Happens, BoardEvents, RunsOn, SparesBytes, SparesThread, WritesApart, is_turn_at, later}
 use Rattle.dma_device.specs.{Accesses.Does, Accesses.Done, Accesses.Turned, Accesses.Turns, Accesses.Writes, Device.DeviceValue, Device.reset_device, Dmago.Go}
 use Rattle.dma_device.specs.{Dmago.csr_status, Dmago.image_in, Dmago.started_by, Turns.Setup, Turns.setup_of, Turns.turned, declared.device.turns.Turn.Turn}
-use Rattle.dma_device.proofs.OneByte.{copied_to, explains, is_work, no_place, one_place, program, region, small, start, work}
+use Rattle.dma_device.proofs.OneByte.{all_five, copied_to, explains, is_work, no_place, one_place, program, program_to, region, small, start, work}
 use Rattle.dma_device.proofs.{Boards.a_board_copies, Boards.board_spares, Boards.happens_later, Boards.spares_here, InMemory.image_has_bytes}
 use Rattle.dma_device.specs.Offsets as offset
 
 -- ---- a second program
 
--- the same, but for DMAMOV DAR, 0x32
 abbrev other : List ℕ
-other =
-    0xBC ∷ 0x00 ∷ 0x30 ∷ 0x00 ∷ 0x00 ∷ 0x00 ∷ 0xBC ∷ 0x02 ∷ 0x32 ∷ 0x00 ∷ 0x00 ∷ 0x00 ∷ 0xBC ∷ 0x01 ∷ 0x01 ∷ 0x40 ∷ 0x00
-    ∷ 0x00 ∷ 0x04 ∷ 0x08 ∷ 0x00 ∷ []
+other = program_to 0x32
 
 goes_on : (k : ℕ) → k < 5 → GoesOn (next_in other (traced start other k)) (traced start other k)
 unfolding is_control control_of end_at burst_at
-goes_on zero less = ((λ bad. cc), refl)
-goes_on (suc zero) less = ((λ bad. cc), refl)
-goes_on (suc (suc zero)) less = ((λ bad. cc), refl)
-goes_on (suc (suc (suc zero))) less = ((λ bad. cc), refl)
-goes_on (suc (suc (suc (suc zero)))) less = ((λ bad. cc), refl)
-goes_on (suc (suc (suc (suc (suc k))))) less = absurd (omega arith)
+goes_on = all_five _ ((λ bad. cc), refl) ((λ bad. cc), refl) ((λ bad. cc), refl) ((λ bad. cc), refl) ((λ bad. cc), refl)
 
 explains_other : Explains start other (copied_to 0x32) 5
 unfolding is_control control_of end_at burst_at
@@ -191,13 +183,7 @@ apart x y above differ a i uses = elim uses [
 
 -- the memory's size at event number k
 same_size : (k : ℕ) → length (image_in (lent_at k)) ≡ 85
-same_size zero = refl
-same_size (suc zero) = refl
-same_size (suc (suc zero)) = refl
-same_size (suc (suc (suc zero))) = refl
-same_size (suc (suc (suc (suc zero)))) = refl
-same_size (suc (suc (suc (suc (suc zero))))) = refl
-same_size (suc (suc (suc (suc (suc (suc k)))))) = refl
+same_size k = grind (arith)
 
 copies_one : CopiesOn one work 5 0 board
 copies_one = record { runs = runs_one; bytes = bytes; stays = λ k a less uses. refl; below = λ k less. ap (work_below work) (same_size k) }

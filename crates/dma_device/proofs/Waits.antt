@@ -1,30 +1,29 @@
 -- A call of a thread that waits by its status, for an event that it doesn't see, does nothing. One of a thread that
 -- begins to wait changes its status and CPC.
 use Rattle.std.proofs.Common.{is_some, ◌≡◌, ◌∙◌, ℕ, zero, suc, ◌+◌, ◌%◌, ◌^◌, ◌<◌, ◌≤◌, Bool, true, false, ◌&&◌, List, get_or, map, Option, Some, None, Result}
-use Rattle.std.proofs.Common.{Ok, ap, refl, sym, subst, arith, inl, inr, true≢false, bit_and, bit_or, w32}
+use Rattle.std.proofs.Common.{Ok, ap, refl, sym, arith, inl, inr, true≢false, bit_and, bit_or, w32}
 use Rattle.std.specs.{Prelude.nat_eq, Prelude.nat_lt, Prelude.not, Prelude.slice_get, Int.bit_at, Int.bit_not, List.list_any, Option.option_map_or}
 use Rattle.std.proofs.lemmas.Bool.{cases_lt, eq-eqb, eqb-true, lt-ltb, and_parts, ne_eqb, not-true}
 use Rattle.std.proofs.lemmas.Nat.Bits.{bit_at-lt, bit_at_above, bit_at_and, bit_at_not, bit_at_ones, bit_at_or, same_from_bits_below}
 use Rattle.std.proofs.{Math.Pow.pow_mono, lemmas.Nat.and_le_l, lemmas.Nat.or_lt}
 use Rattle.dma_insn.specs.{ControlWord.flag, declared.chip.ChipInsn.ChipInsn, declared.chip.ChipInsn.TheVariants.Wfe}
 use Rattle.dma_mem.specs.Regions.{image_of, pieces_of, read_only_of}
-use Rattle.dma_mem.specs.{Marking.MarkList, declared.regions.Region.Region, declared.segment.Segment.Segment}
+use Rattle.dma_mem.specs.{Marking.MarkList, declared.regions.Region.Region}
 use Rattle.dma_mem.proofs.FlagBits.{get_or_flags_of}
-use Rattle.dma_chan.specs.Stepping.{Machine, TakesSteps, answer_at, signal_after, signal_of, written_after}
-use Rattle.dma_chan.specs.Written.{also_written, joined, range_at, store_ahead}
-use Rattle.dma_chan.specs.{Channel.ahead_of, Channel.last_count, Exec.ChangesNothing, LentRegions.segment_of, declared.turn.ChanTurn.ChanTurn}
+use Rattle.dma_chan.specs.Stepping.{Machine, TakesSteps, answer_at, signal_after, written_after}
+use Rattle.dma_chan.specs.Written.{range_at}
+use Rattle.dma_chan.specs.{Channel.ahead_of, Channel.last_count, LentRegions.segment_of, declared.turn.ChanTurn.ChanTurn}
 use Rattle.dma_chan.specs.{declared.turn.ChanTurn.TheVariants.Waiting, declared.turn.FaultKind.FaultKind}
 use Rattle.dma_chan.proofs.{StepsTaken.steps_move, StepsTaken.steps_stop, SteppedOver.is_still, SteppedOver.was_moved, SteppedOver.went_before}
-use Rattle.dma_device.specs.CallSteps.{StepsThread, first_in, last_in, marks_in, second_in}
+use Rattle.dma_device.specs.CallSteps.{StepsThread, first_in, last_in, marks_in}
 use Rattle.dma_device.specs.Device.{DeviceValue, all_events, irq_abort, irqs, with_thread}
 use Rattle.dma_device.specs.Thread.{IsSound, answered, can_step, has_status, is_faulting, is_signalled, runs, waits_for}
-use Rattle.dma_device.specs.Turns.{Outcome, Setup, TakesTurn, begins, called_if, follows, idle, lines_differ, machine_in, runs_at, setup_of, stepped, steps_in}
+use Rattle.dma_device.specs.Turns.{Outcome, Setup, TakesTurn, begins, called_if, idle, lines_differ, machine_in, runs_at, setup_of, stepped, steps_in}
 use Rattle.dma_device.specs.Turns.{visible_events, with_flags}
 use Rattle.dma_device.specs.{declared.device.turns.Called.Called, declared.device.turns.Turn.Turn, declared.thread.Status.Status}
 use Rattle.dma_device.specs.{declared.thread.Status.TheVariants.WaitingForEvent, declared.thread.Thread.Thread, Accesses.AreAlike, Events.IsVisible}
-use Rattle.dma_device.specs.{Interrupts.HasLine, Idle.IsSoundDevice, Idle.WaitsInVain, Idle.no_turn, Idle.waiting, Run.put_from}
-use Rattle.dma_device.proofs.Calls.{call_acts, call_is, machine_left, runs_found, stepped_is, takes, turn_device, turn_image, turn_lines, turn_taken}
-use Rattle.dma_device.proofs.Calls.{turn_written}
+use Rattle.dma_device.specs.{Idle.IsSoundDevice, Idle.WaitsInVain, Idle.no_turn, Idle.waiting, Run.put_from}
+use Rattle.dma_device.proofs.Calls.{call_acts, call_is, machine_left, runs_found, stepped_is, takes}
 use Rattle.dma_device.proofs.{Runs.put_is, Found.all_at, Found.any_at, Found.any_set, Found.put_back, Interrupts.seen_bit}
 use borrow.Author.Tests.{ltb-true}
 
@@ -46,8 +45,7 @@ pub record Waits (events flags : ℕ) (t : Thread) : Type 0 where
   pub here : t.pc ≡ (t.base + t.channel.registers.pc) % 2 ^ 32
 
 is_wfe : (next : Result ChipInsn FaultKind) (e : ℕ) → waits_for e next ≡ true → (v : Bool) × (next ≡ Ok (Wfe e v))
-is_wfe (Ok (Wfe k v)) e is = let same : k ≡ e = eqb-true k e is in (v, ap (λ (j : ℕ). Ok (Wfe j v)) same)
-is_wfe next e is = absurd (true≢false (sym is))
+is_wfe next e h = grind (arith, eqb-true)
 
 waits_by : (events flags : ℕ) (t : Thread) (s : Status) → t.status ≡ s → has_status events t s ≡ true → is_signalled flags s ≡ false → Waits events flags t
 waits_by events flags t (WaitingForEvent e) h1 h2 h3 =
@@ -93,14 +91,7 @@ still_call marks s w most zero e v last some x next few waits =
             absurd (omega arith)
       ]
     ]
-still_call marks s w most (suc zero) e v last some x next few waits =
-    record {
-      one = refl;
-      machine = x.ends_at ∙ is_still marks s (subst ChangesNothing (sym waits) tt);
-      answer = x.answer ∙ ap (λ (a : ChanTurn). Some a) waits;
-      signal = ap signal_of next;
-      written = ap (λ (a : ChanTurn). also_written a (store_ahead s.channel) (range_at 0 0)) waits;
-    }
+still_call marks s w most (suc zero) e v last some x next few waits = grind (arith, is_still)
 still_call marks s w most (suc (suc j)) e v last some x next few waits =
     absurd (cc (was_moved (ahead_of s.channel) (answer_at marks s) (went_before marks s 1 (steps_move x 1 (omega arith))), waits))
 
@@ -149,9 +140,13 @@ alike_is regions left places access image = record {
 abbrev quiet : ℕ → Called
 quiet taken = record { written = range_at 0 0; signal = None; taken = taken }
 
+-- what a call leaves that changes nothing and takes this number of steps
+abbrev rested : ℕ → Setup → Outcome
+rested taken s = record { left = s; called = quiet taken }
+
 -- what a call leaves that begins to wait
 abbrev wait_of : ℕ → ℕ → Thread → Setup → Outcome
-wait_of n e t s = record { left = record { device = with_thread n (waiting e t) s.device; image = s.image }; called = quiet 1 }
+wait_of n e t s = rested 1 (record { device = with_thread n (waiting e t) s.device; image = s.image })
 
 only_waits : (marks : MarkList) (n most : ℕ) (t : Thread) (s : Setup) → IsSoundDevice s.device → 0 < most
     → (w : AtWait s.device.config.events (visible_events s.device) t) → stepped marks n most t s ≡ wait_of n w.event t s
@@ -166,18 +161,11 @@ only_waits marks n most t s h some w =
     let seen = visible_events d in
     let all : 2 ^ d.config.events ≤ 2 ^ 32 = pow_mono {i = d.config.events} {j = 32} h.few in
     let few : seen < 2 ^ 32 = omega (arith, and_le_l d.events (bit_not w32 d.inten), h.known.events) in
-    let waits : TakesSteps marks from most count (Some (Waiting w.event)) from =
-    record { count = refl; answer = sym still.answer; ends_at = sym still.machine } in
+    let waits : TakesSteps marks from most count (Some (Waiting w.event)) from = grind (arith) in
     stepped_is marks n most t s t.channel s.image seen count (Some (Waiting w.event)) None (range_at 0 0) few waits (sym still.signal) (sym still.written)
-    ∙ ap (λ (u : Thread). record { left = record { device = with_thread n u (with_flags seen d); image = s.image }; called = quiet count })
-    (waits_now d.config.events t w.event w.known)
-    ∙ ap (λ (f : DeviceValue). record { left = record { device = with_thread n (waiting w.event t) f; image = s.image }; called = quiet count })
-    (events_back d h)
-    ∙ ap (λ (k : ℕ). record { left = record { device = with_thread n (waiting w.event t) d; image = s.image }; called = quiet k }) still.one
-
--- what a call leaves that changes nothing and takes this number of steps
-abbrev rested : ℕ → Setup → Outcome
-rested taken s = record { left = s; called = quiet taken }
+    ∙ ap (λ (u : Thread). rested count (record { device = with_thread n u (with_flags seen d); image = s.image })) (waits_now d.config.events t w.event w.known)
+    ∙ ap (λ (f : DeviceValue). rested count (record { device = with_thread n (waiting w.event t) f; image = s.image })) (events_back d h)
+    ∙ ap (λ (k : ℕ). rested k (record { device = with_thread n (waiting w.event t) d; image = s.image })) still.one
 
 waits_still : (marks : MarkList) (n most : ℕ) (t : Thread) (s : Setup) → IsSoundDevice s.device → slice_get s.device.threads n ≡ Some t → 0 < most
     → Waits s.device.config.events (visible_events s.device) t → stepped marks n most t s ≡ rested 1 s
@@ -193,93 +181,57 @@ waits_here d n t h idle found on =
     (any_at (can_step (visible_events d)) d.threads n t idle found)
 
 by_runs : (o : Option Thread) → option_map_or runs o false ≡ true → (t : Thread) × (o ≡ Some t)
-by_runs None on = absurd (true≢false (sym on))
-by_runs (Some t) on = (t, refl)
+by_runs o h = grind (arith)
 
 call_rests : (made : Bool) (marks : MarkList) (n most : ℕ) (s : Setup) → IsSoundDevice s.device
     → list_any (can_step (visible_events s.device)) s.device.threads ≡ false → (made ≡ true → (0 < most) × (runs_at s.device n ≡ true))
     → called_if made marks n most s ≡ rested (flag made) s
-call_rests false marks n most s h none on = refl
-call_rests true marks n most s h none on = elim (call_is true marks n most s) [
-  | inl rests ↦
-      let found = by_runs (slice_get s.device.threads n) (on refl).1 in
-      absurd (rests.off (record { on = refl; thread = found.0; found = found.1 }))
-  | inr acts ↦
-      call_acts marks most acts
-      ∙ waits_still marks n most acts.thread s h acts.found (on refl).0 (waits_here s.device n acts.thread h none acts.found (on refl).1)
-]
+call_rests made marks n most s h h2 h3 = grind (arith, call_is, by_runs, call_acts, waits_still, waits_here)
 
 -- ---- a turn
 
-lines_same : (d e : DeviceValue) → e ≡ d → lines_differ d e ≡ false
-lines_same d e same = rw (same, eq-eqb (irqs d) (irqs d) refl, eq-eqb (flag (irq_abort d)) (flag (irq_abort d)) refl) refl
+lines_same : (d : DeviceValue) → lines_differ d d ≡ false
+lines_same d = rw (eq-eqb (irqs d) (irqs d) refl, eq-eqb (flag (irq_abort d)) (flag (irq_abort d)) refl) refl
 
--- what a turn reports that writes nothing and changes no line
-reports_none : (turn : Turn) (taken : ℕ) → turn.written ≡ range_at 0 0 → turn.lines_changed ≡ false → turn.taken ≡ taken → turn ≡ no_turn taken
-reports_none turn taken written lines steps =
-    ap (λ (r : Segment). record { written = r; lines_changed = turn.lines_changed; taken = turn.taken }) written
-    ∙ ap (λ (b : Bool). record { written = range_at 0 0; lines_changed = b; taken = turn.taken }) lines
-    ∙ ap no_turn steps
+-- no line changes with a thread that is faulting if it was
+pub lines_kept : (d : DeviceValue) (n : ℕ) (t u : Thread) → slice_get d.threads n ≡ Some t → is_faulting u ≡ is_faulting t
+    → lines_differ d (with_thread n u d) ≡ false
+lines_kept d n t u found same = rw (any_set is_faulting d.threads n t u found same) (lines_same d)
 
 pub record Rests (d : DeviceValue) (regions : List Region) (taken : ℕ) (e : DeviceValue) (left : List Region) (turn : Turn) : Type 0 where
   pub device : e ≡ d
   pub alike : AreAlike left regions
   pub report : turn ≡ no_turn taken
 
+-- a turn whose first call leaves this device, and changes nothing else
+quiet_turn : (d f : DeviceValue) (regions : List Region) (n most : ℕ) (e : DeviceValue) (left : List Region) (turn : Turn) (taken : ℕ)
+    → lines_differ d f ≡ false → first_in d regions n most ≡ rested taken (setup_of f regions) → TakesTurn d regions n most e left turn
+    → Rests f regions taken e left turn
+quiet_turn d f regions n most e left turn taken same is x = grind (arith, alike_is)
+
 pub turn_rests : (d : DeviceValue) (regions : List Region) (n most : ℕ) (e : DeviceValue) (left : List Region) (turn : Turn) → IsSoundDevice d
     → list_any (can_step (visible_events d)) d.threads ≡ false → TakesTurn d regions n most e left turn → Rests d regions (flag (begins d n most)) e left turn
-turn_rests d regions n most e left turn h none x =
-    let marks = marks_in regions in
-    let s = setup_of d regions in
-    let made = begins d n most in
-    let after : Outcome → Outcome = λ o. called_if (follows o.left.device n o.called) marks n 1 o.left in
-    let one : first_in d regions n most ≡ rested (flag made) s = call_rests made marks n most s h none (λ on.
-    let both = and_parts (nat_lt 0 most) (runs_at d n) on in (ltb-true 0 most both.0, both.1)) in
-    let two : second_in d regions n most ≡ idle s = ap after one in
-    let device : e ≡ d = sym (turn_device x) ∙ ap (λ (o : Outcome). o.left.device) two in
-    let image = sym (turn_image x) ∙ ap (λ (o : Outcome). o.left.image) two in
-    let written : turn.written ≡ range_at 0 0 = sym (turn_written x) ∙ ap (λ (o : Outcome). joined o.called.written (after o).called.written) one in
-    let lines : turn.lines_changed ≡ false = sym (turn_lines x) ∙ ap (lines_differ d) (turn_device x) ∙ lines_same d e device in
-    let sum : turn.taken ≡ flag made + 0 = sym (turn_taken x) ∙ ap (λ (o : Outcome). o.called.taken + (after o).called.taken) one in
-    record {
-      device = device;
-      alike = alike_is regions left x.kept.places x.kept.read_only image;
-      report = reports_none turn (flag made) written lines (omega (arith, sum));
-    }
+turn_rests d regions n most e left turn h none =
+    quiet_turn d d regions n most e left turn (flag (begins d n most)) (lines_same d)
+    (call_rests (begins d n most) (marks_in regions) n most (setup_of d regions) h none (λ on.
+    let both = and_parts (nat_lt 0 most) (runs_at d n) on in (ltb-true 0 most both.0, both.1)))
 
 -- ---- a turn at a DMAWFE that waits
 
 -- channels don't see its event
 unseen_clear : (d : DeviceValue) (event : ℕ) → IsSoundDevice d → event < d.config.events → ¬ IsVisible d event
     → nat_eq (bit_at (visible_events d) event) 1 ≡ false
-unseen_clear d event h known unseen = ne_eqb (bit_at (visible_events d) event) 1 (λ high.
-    let all : 2 ^ d.config.events ≤ 2 ^ 32 = pow_mono {i = d.config.events} {j = 32} h.few in
-    let line : HasLine d event = record { events = h.few; event = known; inten = omega (arith, h.known.inten, all) } in
-    let seen = seen_bit d event (omega (arith, known, h.few)) line.inten in
-    unseen (line, (omega (arith, seen, high, bit_at-lt d.events event), (λ on. omega (arith, seen, high, on)))))
-
--- a thread that begins to wait isn't faulting, and wasn't
-same_lines : (d : DeviceValue) (n e : ℕ) (t : Thread) → slice_get d.threads n ≡ Some t → runs t ≡ true → lines_differ d (with_thread n (waiting e t) d) ≡ false
-same_lines d n e t found on =
-    let fine : is_faulting t ≡ false = not-true (is_faulting t) (and_parts (is_some t.channel.program) (not (is_faulting t)) on).1 in
-    let same = any_set is_faulting d.threads n t (waiting e t) found (sym fine) in
-    rw (same, eq-eqb (irqs d) (irqs d) refl, eq-eqb (flag (irq_abort d)) (flag (irq_abort d)) refl) refl
+unseen_clear d event h known unseen = grind (arith, ne_eqb, pow_mono, seen_bit, bit_at-lt)
 
 pub waits_in_vain : WaitsInVain
 waits_in_vain d e regions left n most event turn t x h w some =
     let marks = marks_in regions in
     let s = setup_of d regions in
-    let first = first_in d regions n most in
-    let at : AtWait d.config.events (visible_events d) t =
-    record { event = event; invalid = w.invalid; clear = unseen_clear d event h w.known w.unseen; known = w.known; next = w.next; few = w.few } in
+    let at : AtWait d.config.events (visible_events d) t = grind (arith, unseen_clear) in
     let starts : begins d n most ≡ true = ap (λ (b : Bool). b && runs_at d n) (lt-ltb 0 most some) ∙ runs_found d n t w.found ∙ w.running in
     let one : StepsThread (begins d n most) n s = record { on = starts; thread = t; found = w.found } in
-    let is : first ≡ wait_of n event t s = call_acts marks most one ∙ only_waits marks n most t s h some at in
-    let after : Outcome → Outcome = λ o. called_if (follows o.left.device n o.called) marks n 1 o.left in
-    let second : second_in d regions n most ≡ idle (wait_of n event t s).left = ap after is in
-    let device : with_thread n (waiting event t) d ≡ e = ap (λ (o : Outcome). o.left.device) (sym second) ∙ turn_device x in
-    let image = ap (λ (o : Outcome). o.left.image) (sym second) ∙ turn_image x in
-    let written : turn.written ≡ range_at 0 0 = sym (turn_written x) ∙ ap (λ (o : Outcome). joined o.called.written (after o).called.written) is in
-    let lines : turn.lines_changed ≡ false = sym (turn_lines x) ∙ ap (lines_differ d) (turn_device x ∙ sym device) ∙ same_lines d n event t w.found w.running in
-    let steps : turn.taken ≡ 1 = sym (turn_taken x) ∙ ap (λ (o : Outcome). o.called.taken + (after o).called.taken) is in
-    (sym device, alike_is regions left x.kept.places x.kept.read_only (sym image), reports_none turn 1 written lines steps)
+    -- a thread that begins to wait isn't faulting, and wasn't
+    let fine : is_faulting t ≡ false = not-true (is_faulting t) (and_parts (is_some t.channel.program) (not (is_faulting t)) w.running).1 in
+    let rests = quiet_turn d (with_thread n (waiting event t) d) regions n most e left turn 1 (lines_kept d n t (waiting event t) w.found (sym fine))
+    (call_acts marks most one ∙ only_waits marks n most t s h some at) x in
+    (rests.device, rests.alike, rests.report)

@@ -47,13 +47,13 @@ write_has k ram at value d has =
     write_cases (λ (e : DeviceValue). HasLine e k) ram at value d (record {
       inten = record { events = has.events; event = has.event; inten = omega (arith, and_le_r value (all_events d)) };
       intclr = λ _. kept _ refl refl;
-      dbgcmd = λ _. debug_cases (λ (e : DeviceValue). HasLine e k) ram d (record {
+      dbgcmd = λ _ _. debug_cases (λ (e : DeviceValue). HasLine e k) ram d (record {
         same = has;
         manager = λ _ m. kept _ refl refl;
         sev = λ byte _. branch (λ (e : DeviceValue). HasLine e k) (is_interrupt d (byte / 8)) _ _ (λ _. kept _ refl refl) (λ _. kept _ refl refl);
         kills = λ _ _ _. kept _ refl refl;
         fails = λ _ _ _ _. kept _ refl refl;
-        starts = λ _ _ _ _ _. kept _ refl refl;
+        starts = λ _ _ _ _ _ _. kept _ refl refl;
       });
       dbginst0 = kept _ refl refl;
       dbginst1 = kept _ refl refl;
@@ -69,8 +69,7 @@ abbrev pub word_of : Bool → DeviceValue → ℕ
 word_of kind d = pick kind d.interrupts d.events
 
 pick_other : (kind : Bool) (a b c : ℕ) → kind ≢ true → pick kind a c ≡ pick kind b c
-pick_other true a b c other = absurd (other refl)
-pick_other false a b c other = refl
+pick_other kind a b c h = grind (arith)
 
 -- a write to any register but DBGCMD and, for interrupts, INTCLR leaves the word as it is
 pub others_keep : (kind : Bool) (d : DeviceValue) (ram : List Piece) (at value : ℕ) → at ≢ offset.dbgcmd → (at ≡ offset.intclr → kind ≢ true)
@@ -140,8 +139,7 @@ module _ (kind : Bool) where
   by_either : (b : Bool) (d threads manager : DeviceValue) (opcode byte k : ℕ) (one other : Bool) → Rises kind d threads k (ByDmasev d opcode byte k one)
       → Rises kind d manager k (ByDmasev d opcode byte k other)
       → Rises kind d (if b then threads else manager) k (ByDmasev d opcode byte k (if b then one else other))
-  by_either true d threads manager opcode byte k one other x y = x
-  by_either false d threads manager opcode byte k one other x y = y
+  by_either b d threads manager opcode byte k one other h h2 = grind (arith)
 
   -- after a write to DBGCMD bit k of the word is 1 exactly if it was 1 before, or the write executed a DMASEV of event k
   -- that sets it

@@ -1,9 +1,10 @@
 -- What a turn writes: it lies in the regions, and in none that is read-only.
 use Rattle.std.proofs.Common.{◌≡◌, ◌∙◌, ℕ, zero, suc, ◌≤◌, Bool, true, List, Option, Some, ap, refl, sym, subst, arith, inl, inr, ◌+◌, ◌-◌, ◌<◌, false, ◌&&◌}
-use Rattle.std.proofs.Common.{◌||◌, [], ◌∷◌, ◌++◌, length, get_or, Result, Ok, true≢false}
-use Rattle.std.specs.{Prelude.◌==◌, Prelude.nat_lt, Prelude.not, List.Contains, List.list_all, List.list_any}
+use Rattle.std.proofs.Common.{◌||◌, [], ◌∷◌, ◌++◌, length, Result, true≢false}
+use Rattle.std.specs.{Prelude.◌==◌, Prelude.nat_lt, Prelude.not, List.Contains, List.list_any}
 use Rattle.std.proofs.Math.Bool.{or-true}
-use Rattle.std.proofs.lemmas.Bool.{and_parts, cases_lt, le-leb, lt-ltb, not-true, or_parts}
+use Rattle.std.proofs.lemmas.Bool.{and_parts, cases_lt, le-leb, lt-ltb, not-true, or_parts, true_from_ne_false}
+use Rattle.std.proofs.lemmas.List.Folds.{list_all_at}
 use Rattle.dma_mem.specs.Regions.{Piece, bytes_above, end_of, gaps_above, gaps_of, has, image_of, in_order, pieces_of, read_only_of, rises_from}
 use Rattle.dma_mem.specs.{Marking.MarkList, Marking.is_marked, Marking.lies_in, declared.segment.Segment.Segment, Lent.lies_in_any, Lent.stores_at}
 use Rattle.dma_mem.specs.{declared.marks.MarkKind.TheVariants.Writing, declared.regions.Region.Region}
@@ -53,8 +54,7 @@ by_length : (w r : Segment) → adjoins w r ≡ true → adjoins w (joined (rang
 by_length w r close = grind (arith, adjoins_none, joined_first, joined_none)
 
 by_answer : (w r : Segment) (turn : ChanTurn) → adjoins w r ≡ true → adjoins w (also_written turn r (range_at 0 0)) ≡ true
-by_answer w r Moved close = by_length w r close
-by_answer w r turn close = adjoins_none w (range_at 0 0) refl
+by_answer w r turn h = grind (arith, by_length, adjoins_none)
 
 by_count : (w : Segment) (marks : MarkList) (s : Machine) (k : ℕ) → k ≤ 1 → adjoins w (store_ahead s.channel) ≡ true
     → adjoins w (written_after marks s k) ≡ true
@@ -101,18 +101,13 @@ turn_writes_each d regions n most e left turn x =
 
 -- ---- a store that moved
 
-all_at : (f : ℕ → Bool) (xs : List ℕ) (i a : ℕ) → list_all f xs ≡ true → i < length xs → get_or xs i a ≡ a → f a ≡ true
-all_at f [] i a all l e = absurd (omega arith)
-all_at f (x ∷ xs) zero a all l e = subst (λ (y : ℕ). f y ≡ true) e (and_parts (f x) (list_all f xs) all).0
-all_at f (x ∷ xs) (suc i) a all l e = all_at f xs i a (and_parts (f x) (list_all f xs) all).1 (omega arith) e
-
 -- the test of one address
 abbrev can_write : MarkList → ℕ → ℕ → Bool
 can_write marks size a = nat_lt a size && not (is_marked Writing marks a)
 
 reached : (marks : MarkList) (size : ℕ) (xs : List ℕ) (a : ℕ) → reaches Writing marks size xs ≡ true → Contains xs a → can_write marks size a ≡ true
 unfolding reaches
-reached marks size xs a all i = all_at (can_write marks size) xs i.0 a all i.1 i.2
+reached marks size xs a all i = grind (arith, true_from_ne_false, list_all_at)
 
 store_reaches : (marks : MarkList) (s : State) → (act marks St s).0 ≡ Moved
     → reaches Writing marks (length s.image) (touched (destination_of s.registers)) ≡ true
@@ -124,9 +119,7 @@ zeros_reach marks s moved = grind arith
 
 step_reaches : (marks : MarkList) (next : Result ChipInsn FaultKind) (s : State) (a : ℕ) → (exec_fetched marks next s).0 ≡ Moved
     → Contains (written_by next s.registers) a → can_write marks (length s.image) a ≡ true
-step_reaches marks (Ok St) s a moved i = reached marks (length s.image) (touched (destination_of s.registers)) a (store_reaches marks s moved) i
-step_reaches marks (Ok StoreZeros) s a moved i = reached marks (length s.image) (touched (destination_of s.registers)) a (zeros_reach marks s moved) i
-step_reaches marks next s a moved i = absurd (omega (arith, i.1))
+step_reaches marks next s a h h2 = grind (arith, reached, store_reaches, zeros_reach)
 
 wrote_fits : (marks : MarkList) (s : Machine) (n a : ℕ) → Wrote marks s n a → can_write marks (length s.image) a ≡ true
 wrote_fits marks s n a w =

@@ -78,11 +78,10 @@ machine_in s t = machine t.channel s.image (flags_of (visible_events s.device))
 abbrev pub steps_in : MarkList → ℕ → Thread → Setup → ℕ
 steps_in marks most t s = taken_in (more_after marks (machine_in s t)) most
 
--- A call of channel `n`, which is thread `t`, that executes at most `most` steps of the thread's program. A burst that
--- meets one of these marks fails.
-abbrev pub stepped : MarkList → ℕ → ℕ → Thread → Setup → Outcome
-stepped marks n most t s =
-    let k = steps_in marks most t s in
+-- A call of channel `n`, which is thread `t`, that executes k steps of the thread's program. A burst that meets one of
+-- these marks fails.
+abbrev pub counted : MarkList → ℕ → ℕ → Thread → Setup → Outcome
+counted marks n k t s =
     let to = after_steps marks (machine_in s t) k in
     let signal = signal_after marks (machine_in s t) k in
     let moved : Thread = record t { channel = to.channel } in
@@ -90,6 +89,10 @@ stepped marks n most t s =
     let device = with_thread n thread (with_flags (number_of to.flags) s.device) in
     let called : Called = record { written = written_after marks (machine_in s t) k; signal = signal; taken = k } in
     record { left = record { device = device; image = to.image }; called = called }
+
+-- such a call of at most `most` steps
+abbrev pub stepped : MarkList → ℕ → ℕ → Thread → Setup → Outcome
+stepped marks n most t s = counted marks n (steps_in marks most t s) t s
 
 -- `stepped`, or `idle` if there is no thread
 abbrev pub called : MarkList → ℕ → ℕ → Option Thread → Setup → Outcome
@@ -105,13 +108,9 @@ called_if made marks n most s = if made then called marks n most (slice_get s.de
 abbrev pub lines_differ : DeviceValue → DeviceValue → Bool
 lines_differ d e = not (irqs d == irqs e && flag (irq_abort d) == flag (irq_abort e))
 
--- What a turn of channel `n` leaves and reports: a call of at most `most` steps, if it runs. If the call's last step
--- raised an interrupt, one more step is taken, which mostly is the program's DMAEND, since a driver's interrupt handler
--- expects its channel to be stopped (profile). A store apart from the range that the call wrote is left to the next
--- turn, so that one range has all that was written (profile).
-abbrev pub turned : MarkList → ℕ → ℕ → Setup → Setup × Turn
-turned marks n most s =
-    let first = called_if (begins s.device n most) marks n most s in
+-- what a turn leaves and reports whose first call did this
+abbrev pub turned_after : MarkList → ℕ → Setup → Outcome → Setup × Turn
+turned_after marks n s first =
     let second = called_if (follows first.left.device n first.called) marks n 1 first.left in
     let turn : Turn = record {
       written = joined first.called.written second.called.written;
@@ -119,6 +118,13 @@ turned marks n most s =
       lines_changed = lines_differ s.device second.left.device;
     } in
     (second.left, turn)
+
+-- What a turn of channel `n` leaves and reports: a call of at most `most` steps, if it runs. If the call's last step
+-- raised an interrupt, one more step is taken, which mostly is the program's DMAEND, since a driver's interrupt handler
+-- expects its channel to be stopped (profile). A store apart from the range that the call wrote is left to the next
+-- turn, so that one range has all that was written (profile).
+abbrev pub turned : MarkList → ℕ → ℕ → Setup → Setup × Turn
+turned marks n most s = turned_after marks n s (called_if (begins s.device n most) marks n most s)
 
 -- a device with the memory that regions lend
 abbrev pub setup_of : DeviceValue → List Region → Setup

@@ -18,6 +18,7 @@ ghost use Rattle.dma_device.specs.Underway.{DmagoUnderway, KilledKeepsCounts};
 ghost use Rattle.dma_device.specs.Writes.{TurnWritesEach, TurnWritesInRegions};
 
 /// In the memory that regions in order lend, each address of a region has the region's byte.
+#[tactic(auto, using(crate::proofs::InMemory::image_has_bytes))]
 pub fn memory_has_bytes()
     ensures { ImageHasBytes }
 {}

@@ -95,6 +95,7 @@ impl Device {
     }
 
     // Executes a DMASEV of an event.
+    #[tactic(auto, using(crate::proofs::Sound::one_event, crate::proofs::Sound::with_events, std::proofs::lemmas::Nat::or_lt))]
     fn signal(&mut self, event: u32)
         requires { event < self.old.config.events }
         ensures { self.new ≡ signalled event self.old }

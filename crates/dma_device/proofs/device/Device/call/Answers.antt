@@ -1,4 +1,4 @@
-use Rattle.std.proofs.Common.{◌≡◌, ◌∙◌, ◌+◌, ◌%◌, ◌^◌, ◌<◌, Some, ap, refl, rules, subst, sym, arith}
+use Rattle.std.proofs.Common.{◌≡◌, ◌∙◌, ◌^◌, ◌<◌, Some, ap, refl, rules, subst, sym, arith}
 use Rattle.std.proofs.lemmas.Grind.{common_steps}
 use Rattle.std.specs.Prelude.{slice_get}
 use Rattle.dma_mem.specs.Flags.{flags_of}
@@ -6,7 +6,7 @@ use Rattle.dma_mem.proofs.Steps.{taken_few}
 use Rattle.dma_chan.specs.{declared.bus.Bus.TheVariants.Chip, Bus.fits, Channel.ChannelValue, Stepping.Machine}
 use Rattle.dma_chan.proofs.BusKept.{steps_bus}
 use Rattle.dma_device.specs.{Device.DeviceValue, Device.with_thread, Thread.IsOn, Thread.IsSound, Thread.answered, Turns.visible_events, Turns.with_flags}
-use Rattle.dma_device.specs.{declared.thread.Thread.Thread, inner.Fields.device_value}
+use Rattle.dma_device.specs.{inner.Fields.device_value}
 use Rattle.dma_device.proofs.{Answered.answer_channel, Calls.called_is, Found.found_running, Sound.steps_fit, Sound.answered_sound, Sound.with_new}
 use Rattle.dma_device.proofs.device.Device.call.Goals as goal
 
@@ -17,10 +17,7 @@ invariant_of-self c =
     let new = c.answer.new.self in
     let channel = c.step_regions-taken.new.channel in
     let steps = c.step_regions-taken.ensures.steps in
-    let same : new.channel ≡ channel =
-    ap (λ (x : Thread). x.channel) c.answer.ensures
-    ∙ (answer_channel d.config.events (record t { channel = channel; pc = (t.base + channel.registers.pc) % 2 ^ 32 }) c.step_regions-taken.result.last
-    c.step_regions-taken.result.signal) in
+    let same : new.channel ≡ channel = grind (arith, answer_channel) in
     let after = same ∙ ap (λ (m : Machine). m.channel) steps.ends_at in
     let kept : IsOn d.config.bus t → IsOn d.config.bus new = λ on. record {
       width = ap (λ (x : ChannelValue). x.registers.bus) after ∙ steps_bus _ _ c.step_regions-taken.result.count ∙ on.width;

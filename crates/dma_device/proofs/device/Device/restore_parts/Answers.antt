@@ -1,9 +1,9 @@
 use Rattle.std.proofs.Common.{◌≡◌, ◌∙◌, List, ap, arith, drop, length, refl, subst, sym, true≢false, true}
 use Rattle.std.proofs.lemmas.List.{take-append-drop, with_items_is}
-use Rattle.std.specs.{List.All, List.flat_map, Vec.with_items}
-use Rattle.dma_device.specs.Snapshot.{HasKnownEvents, IsDeviceValue, IsThreadValue, head_in, head_of, parts_in, saved_thread}
+use Rattle.std.specs.{List.All, List.flat_map}
+use Rattle.dma_device.specs.Snapshot.{HasKnownEvents, IsDeviceValue, head_in, parts_in, saved_thread}
 use Rattle.dma_device.specs.{Device.DeviceValue, Thread.IsOn, declared.config.Config.Config, declared.save.head.Head.Head}
-use Rattle.dma_device.specs.{declared.thread.Thread.Thread, inner.Saves.HasHeadRanges}
+use Rattle.dma_device.specs.{declared.thread.Thread.Thread}
 use Rattle.dma_device.proofs.SavedDevices.{tail_is, device_ranges_in, device_value_is, from_head, known_in, threads_behind}
 use Rattle.dma_device.proofs.{Sound.are_on, Sound.on_of, Sound.with_parts, device.Device.restore_parts.Goals.After-restore_threads}
 use Rattle.dma_device.proofs.device.Device.restore_parts.Goals as goal
@@ -41,12 +41,7 @@ invariant_of-self c =
 -- the threads of the device whose parts these are
 restored : (c : After-restore_threads) (d : DeviceValue) → IsDeviceValue d → d.config ≡ c.args.self.now.config → c.args.save.now ≡ parts_in c.args.version d
     → (c.restore_threads.result ≡ true) × (c.restore_threads.new.threads ≡ d.threads)
-restored c d v config e =
-    let same = config ∙ sym (ap (λ (x : DeviceValue). x.config) c.self.view_is) in
-    let count = v.count ∙ ap (λ (g : Config). g.channels) same ∙ sym c.self.invariant.count ∙ ap length (sym c.deref_mut.ensures.value) in
-    let values = subst (λ (g : Config). All (IsThreadValue g.events) d.threads) same v.threads in
-    let on = subst (λ (g : Config). All (IsOn g.bus) d.threads) same v.on in
-    c.restore_threads.ensures.all d.threads count values on (threads_behind c.args.version d c.args.save.now e)
+restored c d v config e = grind (arith, threads_behind)
 
 pub returns-then-not-restore_threads-clause-all : goal.returns-then-not-restore_threads-clause-all
 returns-then-not-restore_threads-clause-all c d v config e =
@@ -94,19 +89,4 @@ returns-clause-all c e v config is =
     )
 
 pub returns-clause-value : goal.returns-clause-value
-returns-clause-value c =
-    λ _. (let d = c.self.inside in
-    let h = c.in-Some.head in
-    let new = c.restore_threads.new.threads in
-    let len : length new ≡ d.threads.len = omega (arith, c.restore_threads.auto.threads, c.deref_mut.ensures.len) in
-    let r = c.in-Some.ensures.ranges in
-    let known = known_on h d.config c.in-Some.ensures.config c.in-Some.ensures.known in
-    let all = with_parts d new h.manager h.events h.interrupts h.inten h.dbginst0 h.dbginst1 c.self.invariant len
-    (c.restore_threads.auto.threads ∙ ap length c.deref_mut.ensures.value) c.restore_threads.ensures.sound
-    (are_on d.config.bus new c.restore_threads.ensures.on) known.events known.interrupts known.inten in
-    let e = from_head d.config h (with_items d.threads new).items in
-    let ranges : HasHeadRanges (head_of e) =
-    record { fault = r.fault; events = r.events; interrupts = r.interrupts; inten = r.inten; dbginst0 = r.dbginst0; dbginst1 = r.dbginst1 } in
-    let values = subst (All (IsThreadValue d.config.events)) (sym (with_items_is d.threads new len))
-    (c.restore_threads.ensures.values c.if-not-restore_threads.false) in
-    device_value_is e all.config all.sound.known ranges all.count values (on_of d.config.bus _ all.on))
+returns-clause-value c = grind (arith, known_on, with_parts, are_on, with_items_is, device_value_is, on_of)

@@ -13,10 +13,7 @@ room : (d e : DeviceValue) (ts : List Thread) (out : List ℕ) → d ≡ e → t
 room d e ts out is threads fits = grind (arith, common_steps, device_length)
 
 pub save_threads-requires : goal.save_threads-requires
-save_threads-requires c =
-    let d = device_value c.self.inside in
-    let fits = room d c.args.self.now c.deref.result.now c.args.out.now c.self.view_is c.deref.ensures.value c.requires.room in
-    omega (arith, fits, ap length (tail_is 40 c.args.out.now), length-take 40 c.args.out.now)
+save_threads-requires c = grind (arith, room, tail_is, length-take)
 
 pub slice_bounds-copy_from_slice-end-2 : goal.slice_bounds-copy_from_slice-end-2
 slice_bounds-copy_from_slice-end-2 c = sym (front_length 40 c.args.out.now c.save_threads.new.out c.requires.head)
@@ -35,9 +32,7 @@ returns c =
     let parts = flat_map saved_thread d.threads in
     let long : 40 ≤ length out = c.requires.head in
     let threads = c.deref.ensures.value in
-    let head : c.copy_from_slice.new.self ≡ head_bytes (head_of d) =
-    c.copy_from_slice.ensures.after ∙ c.as_slice.ensures.value ∙ c.bytes-head.ensures.bytes
-    ∙ ap head_bytes (c.head.ensures ∙ ap head_of (sym c.self.view_is)) in
+    let head : c.copy_from_slice.new.self ≡ head_bytes (head_of d) = grind (arith) in
     let tail : drop 40 (put_mid 40 (length out - 40) out new) ≡ parts ++ drop (40 + length parts) out =
     ap (drop 40) (put_tail 40 out new long) ∙ drop_at (take 40 out) new 40 (omega (arith, length-take 40 out)) ∙ c.save_threads.ensures
     ∙ simp (threads, tail_is 40 out, drop-drop) in

@@ -91,8 +91,7 @@ returns-then-eq-clause-found c =
     let new = read c.restore.new.self c.in-Some.status c.u32_at-self.result c.u32_at-csr.result c.u32_at-self-2.result c.u32_at-self-3.result in
     let same = (slice_eq-Decides Decides-eqb _ _ _ c.eq.ensures).0 c.if-eq.true in
     let head : take 20 bytes ≡ thread_bytes new len = sym same ∙ c.as_slice.ensures.value ∙ c.head_bytes-again.ensures.bytes in
-    let count : len ≡ length (saved new.channel) =
-    omega (arith, ap length channel, length-take len (drop 20 bytes), ap length (tail_is 20 bytes), c.if-rest-len.false) in
+    let count : len ≡ length (saved new.channel) = grind (arith, length-take, tail_is) in
     take-add 20 len bytes ∙ ap (λ (l : List ℕ). l ++ take len (drop 20 bytes)) head
     ∙ ap (λ (l : List ℕ). thread_bytes new len ++ l) channel
     ∙ ap (λ (n : ℕ). thread_bytes new n ++ saved new.channel) count
