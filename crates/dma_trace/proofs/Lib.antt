@@ -1,4 +1,4 @@
-pub mod Fronts
+pub mod Reached
 pub mod Steps
 pub mod Waves
 pub mod Running

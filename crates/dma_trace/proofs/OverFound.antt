@@ -1,6 +1,6 @@
 -- A trace over RAM at the ranges that are found.
 use Rattle.std.proofs.Common.{◌≡◌, ℕ, ◌+◌, ◌≤◌, List, Bool, sym, subst, inl}
-use Rattle.std.specs.Prelude.{All, IfOk, IsTrue, Result, Ok, Err, map}
+use Rattle.std.specs.Prelude.{All, IsTrue, map}
 use Rattle.std.proofs.lemmas.List.Elements.{All-append, All-map}
 use Rattle.dma_mem.specs.{declared.segment.Segment.Segment, Lent.lies_in_any, Places.end_of_addresses, Regions.Piece, Regions.in_order}
 use Rattle.dma_chan.specs.{declared.exec.Registers.Registers, Exec.start_on}
@@ -22,27 +22,25 @@ found_ends start program most x f =
     All-append Ends _ _ (All-append Ends _ _ src dst) zeros
 
 -- a trace over these ranges
-pub shown_alone : {E : Type 0} (r : Result Bool E) (o : TraceOptions) (program : List ℕ) (x : Explained) (ranges shown : List Segment)
-    (out err old wave new_out new_err new_wave : List ℕ) → Finds (start_on o.bus) program (most_explained o) x → shown ≡ ranges
-    → IsTrue (in_order (map zero_piece ranges)) → ((a : ℕ) → lies_in_any ranges a ≡ lies_in_any (ranges_of x) a) → err ≡ old
-    → IfOk r (λ good. ShowsOver o program shown good out err wave new_out new_err new_wave)
-    → IfOk r (λ good. ShowsAlone o program good out old wave new_out new_err new_wave)
-shown_alone (Ok good) o program x ranges shown out err old wave new_out new_err new_wave finds same order places kept h =
-    let over : ShowsOver o program ranges good out old wave new_out new_err new_wave =
-    subst (λ (e : List ℕ). ShowsOver o program ranges good out e wave new_out new_err new_wave) kept
-    (subst (λ (s : List Segment). ShowsOver o program s good out err wave new_out new_err new_wave) same h) in
-    inl (record {
-      found = x;
-      finds = finds;
-      regions = over.regions;
-      ram = record {
-        ranges = ranges;
-        zeros = over.zeros;
-        writable = over.writable;
-        order = subst (λ (ps : List Piece). IsTrue (in_order ps)) (sym over.zeros) order;
-        places = places;
-      };
-      new = over.new;
-      shows = over.shows;
-    })
-shown_alone (Err e) o program x ranges shown out err old wave new_out new_err new_wave finds same order places kept h = tt
+module _ (o : TraceOptions) (program : List ℕ) (x : Explained) (ranges shown : List Segment) where
+  pub shown_alone : (good : Bool) (out err old wave new_out new_err new_wave : List ℕ) → Finds (start_on o.bus) program (most_explained o) x
+      → shown ≡ ranges → IsTrue (in_order (map zero_piece ranges)) → ((a : ℕ) → lies_in_any ranges a ≡ lies_in_any (ranges_of x) a) → err ≡ old
+      → ShowsOver o program shown good out err wave new_out new_err new_wave → ShowsAlone o program good out old wave new_out new_err new_wave
+  shown_alone good out err old wave new_out new_err new_wave finds same order places kept h =
+      let over : ShowsOver o program ranges good out old wave new_out new_err new_wave =
+      subst (λ (e : List ℕ). ShowsOver o program ranges good out e wave new_out new_err new_wave) kept
+      (subst (λ (s : List Segment). ShowsOver o program s good out err wave new_out new_err new_wave) same h) in
+      inl (record {
+        found = x;
+        finds = finds;
+        regions = over.regions;
+        ram = record {
+          ranges = ranges;
+          zeros = over.zeros;
+          writable = over.writable;
+          order = subst (λ (ps : List Piece). IsTrue (in_order ps)) (sym over.zeros) order;
+          places = places;
+        };
+        new = over.new;
+        shows = over.shows;
+      })

@@ -6,10 +6,10 @@ use Rattle.dma_text.specs.Digits.{hex_digits}
 use Rattle.dma_insn.specs.declared.chip.ChipInsn.{ChipInsn}
 use Rattle.dma_insn.specs.declared.chip.ChipInsn.TheVariants.{Ld, St, StoreZeros}
 use Rattle.dma_chan.specs.Exec.{destination_of, source_of, start_on}
-use Rattle.dma_chan.specs.{declared.bus.Bus.Bus, declared.turn.FaultKind.FaultKind, declared.bursts.Burst.Burst, Bursts.span_of}
+use Rattle.dma_chan.specs.{declared.bus.Bus.Bus, declared.exec.Registers.Registers, declared.turn.FaultKind.FaultKind, declared.bursts.Burst.Burst, Bursts.span_of}
 use Rattle.dma_explain.specs.{declared.explain.Cause.Cause, declared.explain.Cause.TheVariants.StoresTwice, declared.explain.Cause.TheVariants.StoresSource}
 use Rattle.dma_explain.specs.{Explains.next_in, Explains.traced}
-use Rattle.dma_trace.specs.{declared.front.Front.Front, declared.touches.Access.Access, declared.touches.Touches.Touches, Front.front_at, Words.offset_text}
+use Rattle.dma_trace.specs.{declared.touches.Access.Access, declared.touches.Touches.Touches, Words.offset_text}
 
 -- Returns whether a burst touches an address.
 abbrev pub has_addr : Burst → ℕ → Bool
@@ -31,30 +31,27 @@ with_store access t = record t {
 }
 
 -- Adds a store by instruction number n, if it touches the address.
-abbrev pub after_store : ℕ → ℕ → Front → Touches → Touches
-after_store a n f t =
-    if has_addr (destination_of f.registers) a then with_store (record { number = n; pc = f.registers.pc }) t
-    else t
+abbrev pub after_store : ℕ → ℕ → Registers → Touches → Touches
+after_store a n r t = if has_addr (destination_of r) a then with_store (record { number = n; pc = r.pc }) t else t
 
 -- Adds instruction number n, by the registers before it.
-abbrev pub after_touch : ChipInsn → ℕ → ℕ → Front → Touches → Touches
-after_touch Ld a n f t =
-    if has_addr (source_of f.registers) a then with_load (record { number = n; pc = f.registers.pc }) t else t
-after_touch St a n f t = after_store a n f t
-after_touch StoreZeros a n f t = after_store a n f t
-after_touch i a n f t = t
+abbrev pub after_touch : ChipInsn → ℕ → ℕ → Registers → Touches → Touches
+after_touch Ld a n r t = if has_addr (source_of r) a then with_load (record { number = n; pc = r.pc }) t else t
+after_touch St a n r t = after_store a n r t
+after_touch StoreZeros a n r t = after_store a n r t
+after_touch i a n r t = t
 
 -- Adds an instruction that was fetched. A fault adds nothing.
-abbrev pub after_next : Result ChipInsn FaultKind → ℕ → ℕ → Front → Touches → Touches
-after_next (Ok i) a n f t = after_touch i a n f t
-after_next (Err kind) a n f t = t
+abbrev pub after_next : Result ChipInsn FaultKind → ℕ → ℕ → Registers → Touches → Touches
+after_next (Ok i) a n r t = after_touch i a n r t
+after_next (Err kind) a n r t = t
 
 -- Finds the first load of an address and its first two stores among a program's first n instructions on a bus.
 abbrev pub touches_in : Bus → List ℕ → ℕ → ℕ → Touches
 touches_in bus program a zero = untouched
 touches_in bus program a (suc n) =
     let x = traced (start_on bus) program n in
-    after_next (next_in program x) a (n + 1) (front_at x) (touches_in bus program a n)
+    after_next (next_in program x) a (n + 1) x.registers (touches_in bus program a n)
 
 -- ---- text
 

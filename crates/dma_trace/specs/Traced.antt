@@ -14,8 +14,8 @@ use Rattle.dma_chan.specs.{LentRegions.segment_of, LentRegions.with_gaps_of, dec
 use Rattle.dma_chan.specs.{declared.bursts.Burst.Burst, Bursts.span_of, Exec.destination_of, Exec.source_of}
 use Rattle.dma_explain.specs.declared.explain.Cause.TheVariants.{NoEnd}
 use Rattle.dma_trace.specs.Words.{cause_text, count_text, fault_text, front_text, line_feed, long_text, offset_text, refusal_text, span_text}
-use Rattle.dma_trace.specs.{declared.front.Front.Front, declared.options.TraceOptions.TraceOptions, declared.wave.Moment.Moment, Columns.aligned}
-use Rattle.dma_trace.specs.{Columns.insn_column, Front.front_of, Wave.change_text, Wave.executing, Wave.first_text, Wave.last_text}
+use Rattle.dma_trace.specs.{declared.words.Front.Front, declared.options.TraceOptions.TraceOptions, declared.wave.Moment.Moment, Columns.aligned}
+use Rattle.dma_trace.specs.{Columns.insn_column, Front.front_of, Front.point_of, Wave.change_text, Wave.executing, Wave.first_text, Wave.last_text}
 
 -- ---- memory
 
@@ -106,7 +106,7 @@ if_wave o text = if o.wave then text else []
 
 -- Returns the moment at which a machine executes its next instruction, after n others.
 abbrev pub moment_in : ℕ → Machine → Moment
-moment_in n u = executing n (ahead_of u.channel) (front_in u)
+moment_in n u = executing (point_of n u.channel)
 
 -- Prints the changes after each of the first n steps.
 abbrev pub changes : MarkList → Machine → ℕ → List ℕ

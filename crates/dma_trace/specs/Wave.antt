@@ -7,13 +7,13 @@ use Rattle.dma_insn.specs.declared.chip.ChipInsn.TheVariants.{Ld, St, Sev, Store
 use Rattle.dma_chan.specs.declared.turn.ChanTurn.TheVariants.{Moved, Waiting, Ended, Fault}
 use Rattle.dma_chan.specs.Exec.{destination_of, source_of, fault_bit}
 use Rattle.dma_chan.specs.{declared.turn.ChanTurn.ChanTurn, declared.turn.FaultKind.FaultKind, Bursts.burst_len}
-use Rattle.dma_trace.specs.{declared.front.Front.Front, declared.wave.Moment.Moment, Vcd.signal_line, Words.line_feed}
+use Rattle.dma_trace.specs.{declared.words.Front.Front, declared.words.Point.Point, declared.wave.Moment.Moment, Vcd.signal_line, Words.line_feed}
 
 -- ---- values
 
--- a channel that executes its next instruction, after n others, with these registers
-abbrev pub executing : ℕ → Result ChipInsn FaultKind → Front → Moment
-executing n next f = record { at = record { ahead = next; steps = n; front = f }; answer = None }
+-- a channel that executes its next instruction
+abbrev pub executing : Point → Moment
+executing p = record { at = p; answer = None }
 
 -- the channel status of CSR (DMA-330 manual, channel status registers), by the answer of the last step
 abbrev pub state_of : Option ChanTurn → ℕ

@@ -12,7 +12,7 @@ use Rattle.dma_chan.specs.declared.turn.FaultKind.TheVariants.{DataReadErr}
 use Rattle.dma_chan.specs.{declared.bus.Bus.Bus, declared.turn.FaultKind.FaultKind, declared.bursts.Burst.Burst, Bursts.burst_len, Bursts.span_of}
 use Rattle.dma_chan.specs.{Bus.widest_beat, Exec.destination_of, Exec.fault_bit, Exec.source_of}
 use Rattle.dma_explain.specs.declared.explain.Cause.{Cause}
-use Rattle.dma_trace.specs.{declared.front.Front.Front, Columns.aligned}
+use Rattle.dma_trace.specs.{declared.words.Front.Front, Columns.aligned}
 use Rattle.dma_explain.specs.declared.explain.Cause.TheVariants as causes
 
 abbrev pub line_feed : List ℕ

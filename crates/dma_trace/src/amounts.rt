@@ -2,11 +2,9 @@
 #![tactic(auto, using(dma_text::proofs::Begun::begins_same, dma_text::proofs::Begun::begins_appended, dma_text::proofs::Begun::begins_more))]
 
 ghost use Rattle.std.specs.Prelude.{◌≡◌};
-ghost use Rattle.dma_chan.specs.Bursts.{span_of};
-ghost use Rattle.dma_chan.specs.inner.Spans.{IsBurst, rounds_of};
 ghost use Rattle.dma_trace.specs.Words.{bytes_text, count_text, offset_text, range_text, times_text};
 
-use dma_chan::bursts::Burst;
+use dma_explain::explain::Repeated;
 use dma_text::text::{Address, HexByte, Text};
 use std::alloc::AllocError;
 
@@ -69,38 +67,17 @@ impl Text for Times {
     }
 }
 
-/// The `len` addresses from `addr` on, which are read or written `times` times.
+/// A range of addresses, and how often it is read or written.
 #[derive(Drop)]
-pub struct Range {
-    pub addr: u32,
-    pub len: u32,
-    pub times: u32,
-}
-
-impl Range {
-    /// Returns the addresses that a burst touches, with how often it touches each of them.
-    pub fn of(burst: Burst) -> Range
-        requires some { IsBurst burst }
-        ensures { result ≡ record {
-          addr = burst.addr;
-          len = span_of burst;
-          times = rounds_of burst;
-        } }
-    {
-        Range {
-            addr: burst.addr,
-            len: burst.span().len,
-            times: burst.rounds(),
-        }
-    }
-}
+pub struct Range(pub Repeated);
 
 impl Text for Range {
-    ghost text = { λ range. range_text range.addr range.len range.times };
+    ghost text = { λ range. range_text range.0.addr range.0.len range.0.times };
 
     #[tactic(auto, unfolding(crate::specs::Words::range_text))]
     fn push(&self, out: &mut Vec<u8>) -> Result<(), AllocError> {
-        let len = Bytes(u64::from(self.len));
-        ("0x", Address(self.addr), (" + ", len), Times(self.times)).push(out)
+        let Repeated { addr, len, times } = self.0;
+        let len = Bytes(u64::from(len));
+        ("0x", Address(addr), (" + ", len), Times(times)).push(out)
     }
 }

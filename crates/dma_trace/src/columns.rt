@@ -6,7 +6,7 @@ ghost use Rattle.dma_text.specs.Text.{Begins};
 ghost use Rattle.dma_trace.specs.Columns.{aligned, insn_column, spaces};
 ghost use Rattle.dma_trace.specs.Words.{front_text};
 
-use crate::front::Front;
+use crate::words::Front;
 use dma_insn::chip::ChipInsn;
 use dma_manual::manual::Manual;
 use dma_text::text::{Address, Text};

@@ -5,28 +5,28 @@ ghost use Rattle.std.specs.Prelude.{◌≡◌, ◌<◌, ◌≤◌, ◌++◌, ℕ
 ghost use Rattle.dma_insn.specs.AssemblyText.{most_program_bytes};
 ghost use Rattle.dma_chan.specs.Exec.{start_on};
 ghost use Rattle.dma_explain.specs.Explains.{GoesOn, next_in, traced};
+ghost use Rattle.dma_explain.specs.inner.Tracing.{Follows};
 ghost use Rattle.dma_chan.specs.Next.{next_on};
 ghost use Rattle.dma_text.specs.Text.{Begins};
 ghost use Rattle.dma_trace.specs.Explained.{Appends, amounts_text, bursts_text, unexplained_text, event_line, explained_text, segment_line, source_line};
-ghost use Rattle.dma_trace.specs.Front.{front_at};
 ghost use Rattle.dma_trace.specs.Touches.{touches_in};
 ghost use Rattle.dma_trace.specs.inner.Explaining.{Found};
 
 use crate::amounts::{Bytes, Instructions, Range};
-use crate::front::Front;
 use crate::progress::report;
 use crate::touches::{Conflict, Touches};
 use crate::warnings::{push_warnings, warnings_of};
-use crate::words::{LongProgram, Place, Point, State, Why, first_byte};
+use crate::words::{Front, LongProgram, Place, Point, State, Why, first_byte};
 use dma_chan::bus::Bus;
 use dma_chan::exec::Registers;
+use dma_chan::next::Next;
 use dma_chan::turn::FaultKind;
 use dma_explain::explain as runs;
+use dma_explain::explain::tracer::Tracer;
 use dma_explain::explain::{
     Amounts, BurstCounts, Cause, EventSync, Explained, Happening, Repeated, Unexplained,
 };
-use dma_insn::chip::{ChipInsn, decode_chip, decode_core};
-use dma_insn::codec::DecodeFault;
+use dma_insn::chip::ChipInsn;
 use dma_io::progress::Progress;
 use dma_mem::segment::Segment;
 use dma_text::text::Text;
@@ -34,19 +34,6 @@ use std::alloc::{AllocError, Global};
 
 /// The most instructions that [`explain`] executes of a program, if no other number is given.
 pub const USUAL_MOST: u32 = 10_000_000;
-
-// Appends the line of an item that is read.
-fn push_source(item: Repeated, out: &mut Vec<u8>) -> Result<(), AllocError>
-    ensures ok { OnOk result (out.new.items ≡ out.old.items ++ source_line item) }
-    ensures begins { Begins out.new.items out.old.items }
-{
-    let range = Range {
-        addr: item.addr,
-        len: item.len,
-        times: item.times,
-    };
-    ("  from ", range, "\n").push(out)
-}
 
 /// A line for each item that is read.
 #[derive(Drop)]
@@ -58,23 +45,10 @@ impl Text for Sources<'_> {
     fn push(&self, out: &mut Vec<u8>) -> Result<(), AllocError> {
         let Sources(items) = *self;
         for item in items {
-            push_source(*item, out)?;
+            ("  from ", Range(*item), "\n").push(out)?;
         }
         Ok(())
     }
-}
-
-// Appends the line of a segment that is written, which begins with these words.
-fn push_segment(words: &str, segment: Segment, out: &mut Vec<u8>) -> Result<(), AllocError>
-    ensures ok { OnOk result (out.new.items ≡ out.old.items ++ segment_line words.now segment) }
-    ensures begins { Begins out.new.items out.old.items }
-{
-    let range = Range {
-        addr: segment.addr,
-        len: segment.len,
-        times: 1,
-    };
-    (words, range, "\n").push(out)
 }
 
 /// A line for each segment that is written, each of which begins with these words.
@@ -90,7 +64,12 @@ impl Text for Segments<'_> {
     fn push(&self, out: &mut Vec<u8>) -> Result<(), AllocError> {
         let Segments { words, segments } = *self;
         for segment in segments {
-            push_segment(words, *segment, out)?;
+            let item = Repeated {
+                addr: segment.addr,
+                len: segment.len,
+                times: 1,
+            };
+            (words, Range(item), "\n").push(out)?;
         }
         Ok(())
     }
@@ -188,57 +167,51 @@ impl Text for Copies<'_> {
     }
 }
 
-// Returns the next instruction of a program, or the fault of fetching it.
-fn ahead(bus: Bus, program: &[u8], pc: u32) -> Result<ChipInsn, FaultKind>
-    ensures value { result ≡ next_on bus program.now pc }
-    ensures within { OnOk result (pc ≤ length program.now) }
+// Returns the next instruction of a program with these registers, or the fault of fetching it.
+fn ahead(program: &[u8], registers: &Registers) -> Result<ChipInsn, FaultKind>
+    requires offset { registers.now.pc ≤ length program.now }
+    requires limit { length program.now ≤ most_program_bytes }
+    ensures { result ≡ next_on registers.now.bus program.now registers.now.pc }
 {
-    if pc as usize > program.len() {
-        return Err(FaultKind::InstrFetchErr);
-    }
-    let bytes = &program[pc as usize..];
-    let found = match bus {
-        Bus::Ideal => decode_core(bytes),
-        Bus::Chip(_) => decode_chip(bytes),
-    };
-    match found {
-        Ok((insn, _)) => Ok(insn),
-        Err(DecodeFault::Cut) => Err(FaultKind::InstrFetchErr),
-        Err(DecodeFault::Unknown(_)) => Err(FaultKind::UndefInstr),
-        Err(DecodeFault::BadField) => Err(FaultKind::OperandInvalid),
-    }
+    Ok(Next::on(registers.bus, program, registers.pc)?.insn())
 }
 
-// Returns the registers of a program on a bus after `steps` instructions that go on, and which of these load and store
-// an address.
+// Returns the run of a program on a bus after `steps` instructions that go on, and which of these load and store an
+// address.
 fn reached<P: Progress>(
+    alloc: Global,
     program: &[u8],
     bus: Bus,
     steps: u32,
     addr: u32,
     progress: &mut P,
-) -> (Front, Touches)
+) -> Result<(Tracer, Touches), AllocError>
     requires long { length program.now ≤ most_program_bytes }
     requires goes { (k : ℕ) → k < steps → let x = traced (start_on bus) program.now k in
         GoesOn (next_in program.now x) x }
-    ensures front { result.0 ≡ front_at (traced (start_on bus) program.now steps) }
-    ensures touches { result.1 ≡ touches_in bus program.now addr steps }
+    ensures follows { IfOk result (λ found. Follows (start_on bus) program.now steps found.0) }
+    ensures touches { IfOk result (λ found. found.1 ≡ touches_in bus program.now addr steps) }
 {
-    let mut front = Front::start(bus);
+    let mut tracer = Tracer::new(alloc, Registers::start(bus));
     let mut touches = Touches::none();
     for done in 0..steps {
         report(progress, done);
-        let Ok(insn) = ahead(front.registers.bus, program, front.registers.pc) else {
+        let registers = tracer.registers;
+        let Ok(next) = Next::on(registers.bus, program, registers.pc) else {
             unreachable!()
         };
-        touches.add(&insn, addr, done + 1, &front);
-        front.advance(insn);
+        let insn = next.insn();
+        touches.add(&insn, addr, done + 1, &registers);
+        if tracer.run(program, next, 1).is_err() {
+            return Err(AllocError);
+        }
     }
-    (front, touches)
+    Ok((tracer, touches))
 }
 
 // Appends why and where nothing explains a program.
 fn print_cause<P: Progress>(
+    alloc: Global,
     program: &[u8],
     bus: Bus,
     found: Unexplained,
@@ -252,12 +225,16 @@ fn print_cause<P: Progress>(
         (err.new.items ≡ err.old.items ++ unexplained_text bus program.now found) }
     ensures begins { Begins err.new.items err.old.items }
 {
-    let (front, touches) = reached(program, bus, found.steps, found.addr, progress);
-    let first = first_byte(program, front.registers.pc);
+    let (tracer, touches) = reached(alloc, program, bus, found.steps, found.addr, progress)?;
+    let registers = tracer.registers;
+    let first = first_byte(program, registers.pc);
     let at = Point {
-        ahead: ahead(front.registers.bus, program, front.registers.pc),
+        ahead: ahead(program, &registers),
         steps: found.steps,
-        front,
+        front: Front {
+            registers,
+            held: tracer.held,
+        },
     };
     let place = Place { first, at: &at };
     let why = Why {
@@ -297,7 +274,7 @@ pub(crate) fn find<P: Progress>(
             match found.cause {
                 Cause::NoMemory => return Err(AllocError),
                 Cause::TooLong => LongProgram.push(err)?,
-                _ => print_cause(program, bus, found, err, progress)?,
+                _ => print_cause(alloc, program, bus, found, err, progress)?,
             }
             Ok(None)
         }

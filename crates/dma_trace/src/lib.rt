@@ -16,7 +16,6 @@ mod alone;
 mod amounts;
 mod columns;
 pub mod explain;
-mod front;
 mod lines;
 pub mod options;
 mod progress;

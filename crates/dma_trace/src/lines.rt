@@ -9,10 +9,10 @@ ghost use Rattle.dma_trace.specs.Traced.{burst_text, dump_text, line_text, moves
 
 use crate::amounts::{Offset, Range};
 use crate::columns::{Aligned, FrontColumns, InsnColumn};
-use crate::front::Front;
 use crate::options::TraceOptions;
-use crate::words::Point;
+use crate::words::{Front, Point};
 use dma_chan::bursts::{Burst, destination_burst, source_burst};
+use dma_explain::explain::tracer::read_of;
 use dma_insn::chip::ChipInsn;
 use dma_mem::regions::{Region, copy_run};
 use dma_mem::segment::Segment;
@@ -62,7 +62,7 @@ fn push_burst(
     let more = if span.len > ROW_BYTES { " .." } else { "" };
     (
         verb,
-        Range::of(burst),
+        Range(read_of(burst)),
         (":", SpacedBytes(bytes.as_slice()), more),
     )
         .push(out)

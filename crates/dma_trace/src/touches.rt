@@ -6,8 +6,8 @@ ghost use Rattle.dma_chan.specs.inner.Spans.{IsBurst};
 ghost use Rattle.dma_trace.specs.Touches.{access_text, after_touch, conflict_text, has_addr, untouched, with_load, with_store};
 
 use crate::amounts::Offset;
-use crate::front::Front;
 use dma_chan::bursts::{Burst, destination_burst, source_burst};
+use dma_chan::exec::Registers;
 use dma_explain::explain::Cause;
 use dma_insn::chip::ChipInsn;
 use dma_text::text::{Address, Text};
@@ -64,21 +64,21 @@ impl Touches {
     }
 
     /// Adds an instruction with this number, by the registers before it.
-    pub fn add(&mut self, insn: &ChipInsn, addr: u32, number: u32, before: &Front)
+    pub fn add(&mut self, insn: &ChipInsn, addr: u32, number: u32, before: &Registers)
         ensures { self.new ≡ after_touch insn.now addr number before.now self.old }
     {
         let access = Access {
             number,
-            pc: before.registers.pc,
+            pc: before.pc,
         };
         match *insn {
             ChipInsn::Ld => {
-                if has_addr(source_burst(&before.registers), addr) {
+                if has_addr(source_burst(before), addr) {
                     self.add_load(access);
                 }
             }
             ChipInsn::St | ChipInsn::StoreZeros => {
-                if has_addr(destination_burst(&before.registers), addr) {
+                if has_addr(destination_burst(before), addr) {
                     self.add_store(access);
                 }
             }

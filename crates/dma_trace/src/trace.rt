@@ -1,22 +1,21 @@
 //! A program, executed over memory with a line for each instruction.
 #![tactic(auto, using(dma_text::proofs::Begun::begins_same, dma_text::proofs::Begun::begins_appended, dma_text::proofs::Begun::begins_more))]
 
-ghost use Rattle.std.specs.Prelude.{◌≡◌, ◌≤◌, ◌<◌, ◌++◌, IsTrue, IsSome, IsOk, IfOk, None, OnOk, OnErr, length, map, slice_get};
+ghost use Rattle.std.specs.Prelude.{◌≡◌, ◌≤◌, ◌<◌, ◌++◌, IsTrue, IsSome, IfOk, None, OnOk, OnErr, length, map, slice_get};
 ghost use Rattle.dma_insn.specs.AssemblyText.{most_program_bytes};
 ghost use Rattle.dma_mem.specs.Lent.{marks_at};
-ghost use Rattle.dma_mem.specs.Regions.{image_of, in_order, pieces_of, read_only_of};
+ghost use Rattle.dma_mem.specs.Regions.{in_order, pieces_of, read_only_of};
 ghost use Rattle.dma_chan.specs.Channel.{last_count, loaded_on};
 ghost use Rattle.dma_chan.specs.LentRegions.{segment_of, with_gaps_of};
 ghost use Rattle.dma_chan.specs.Stepping.{after_step, answer_at};
 ghost use Rattle.dma_text.specs.Text.{Begins};
 ghost use Rattle.dma_trace.specs.Found.{ShowsRam};
-ghost use Rattle.dma_trace.specs.Traced.{Shows, end_of, if_wave, opening};
+ghost use Rattle.dma_trace.specs.Traced.{Shows, end_of, if_wave};
 ghost use Rattle.dma_trace.specs.Wave.{executing, last_text};
-ghost use Rattle.dma_trace.specs.inner.Running.{Ends, Runs, machine_over};
+ghost use Rattle.dma_trace.specs.inner.Running.{Ends, RunsOver, machine_over};
 
 use crate::alone::trace_found;
 use crate::amounts::Instructions;
-use crate::front::Front;
 use crate::lines::{push_dumps, push_step};
 pub use crate::options::TraceOptions;
 use crate::progress::report;
@@ -28,7 +27,6 @@ use dma_chan::lent::step_regions;
 use dma_chan::program::MAX_PROGRAM_BYTES;
 use dma_chan::turn::ChanTurn;
 use dma_explain::explain::Cause;
-use dma_insn::chip::ChipInsn;
 use dma_io::progress::Progress;
 use dma_mem::events::Events;
 use dma_mem::marks::{MarkKind, Marks};
@@ -69,17 +67,6 @@ fn failing_marks(alloc: Global, failing: &[Segment]) -> Result<Marks, AllocError
         marks.add(MarkKind::Writing, *segment)?;
     }
     Ok(marks)
-}
-
-// Returns an instruction that was fetched.
-fn insn_of(at: &Point) -> ChipInsn
-    requires { IsOk at.now.ahead }
-    ensures { at.now.ahead ≡ Ok result }
-{
-    match at.ahead {
-        Ok(insn) => insn,
-        Err(_) => unreachable!(),
-    }
 }
 
 // Appends how a run ends, by the answer of its last step, or `None` at the limit, and returns whether it succeeds.
@@ -145,7 +132,7 @@ fn finish(
         (end_of turn.now first at.now.ahead at.now.steps at.now.front stored) good
         out.old.items err.old.items out.new.items err.new.items) }
     ensures wave { OnOk result (wave.new.items ≡ wave.old.items ++ if_wave options.now
-        (last_text (executing at.now.steps at.now.ahead at.now.front) turn.now)) }
+        (last_text (executing at.now) turn.now)) }
     ensures begins { Begins out.new.items out.old.items }
     ensures begins_err { Begins err.new.items err.old.items }
     ensures begins_wave { Begins wave.new.items wave.old.items }
@@ -173,10 +160,8 @@ fn run<P: Progress>(
     requires order { IsTrue (in_order (pieces_of regions.old)) }
     requires loaded { channel.old
         ≡ loaded_on options.now.bus (record { bytes = program.now; cost = None }) }
-    ensures ok { IfOk result (λ good. Runs options.now (with_gaps_of regions.old marks.now)
-        (map segment_of regions.old) (opening options.now program.now
-        (image_of (pieces_of regions.old))) good (image_of (pieces_of regions.new))
-        out.old.items err.old.items wave.old.items
+    ensures ok { IfOk result (λ good. RunsOver options.now (with_gaps_of regions.old marks.now)
+        program.now regions.old regions.new good out.old.items err.old.items wave.old.items
         out.new.items err.new.items wave.new.items) }
     ensures places { map segment_of regions.new ≡ map segment_of regions.old }
     ensures begins { Begins out.new.items out.old.items }
@@ -184,30 +169,20 @@ fn run<P: Progress>(
     ensures begins_wave { Begins wave.new.items wave.old.items }
 {
     let mut events = Events::from_bits(options.events);
-    let mut front = Front::start(options.bus);
-    push_first(options, channel, &front, wave)?;
+    let mut at = Point::of(channel, 0);
+    push_first(options, &at, wave)?;
     for steps in 0..options.limit {
         report(progress, steps);
-        let ahead = channel.ahead();
-        let at = Point {
-            ahead,
-            steps,
-            front,
-        };
         let stored = channel.stored();
         let turn = step(channel, regions, &mut events, marks);
         let ChanTurn::Moved = turn else {
             return finish(options, &Some(turn), program, &at, stored, out, err, wave);
         };
-        front.advance(insn_of(&at));
-        push_step(alloc, options, &at, &front, regions, out)?;
-        push_next(options, &at, channel, &front, wave)?;
+        let next = Point::of(channel, steps + 1);
+        push_step(alloc, options, &at, &next.front, regions, out)?;
+        push_next(options, &at, &next, wave)?;
+        at = next;
     }
-    let at = Point {
-        ahead: channel.ahead(),
-        steps: options.limit,
-        front,
-    };
     let stored = channel.stored();
     finish(options, &None, program, &at, stored, out, err, wave)
 }

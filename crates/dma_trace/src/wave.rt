@@ -1,18 +1,15 @@
 //! The waveform of a trace, as a Value Change Dump (IEEE 1364).
 #![tactic(auto, using(dma_text::proofs::Begun::begins_same, dma_text::proofs::Begun::begins_appended, dma_text::proofs::Begun::begins_more))]
 
-ghost use Rattle.std.specs.Prelude.{◌≡◌, ◌+◌, ◌++◌, ◌<◌, OnOk, IsSome, Result};
-ghost use Rattle.dma_chan.specs.Channel.{ahead_of};
+ghost use Rattle.std.specs.Prelude.{◌≡◌, ◌++◌, OnOk};
 ghost use Rattle.dma_text.specs.Text.{Begins};
 ghost use Rattle.dma_trace.specs.Traced.{if_wave};
 ghost use Rattle.dma_trace.specs.Wave.{bursts_text, change_text, event_of, events_text, executing, first_text, ftr_of, header_text, last_text, load_bit, load_bytes, registers_text, signal_bit, signals_text, state_of, store_bit, store_bytes, time_text, wait_bit};
 
-use crate::front::Front;
 use crate::options::TraceOptions;
 use crate::vcd::SignalLine;
-use crate::words::Point;
+use crate::words::{Front, Point};
 use dma_chan::bursts::{destination_burst, source_burst};
-use dma_chan::channel::Channel;
 use dma_chan::turn::{ChanTurn, FaultKind};
 use dma_insn::chip::ChipInsn;
 use dma_text::text::Text;
@@ -23,6 +20,18 @@ use std::alloc::AllocError;
 pub struct Moment {
     pub at: Point,
     pub answer: Option<ChanTurn>,
+}
+
+impl Moment {
+    // Returns a channel that executes its next instruction.
+    fn executing(at: &Point) -> Moment
+        ensures { result ≡ executing at.now }
+    {
+        Moment {
+            at: *at,
+            answer: None,
+        }
+    }
 }
 
 // Returns the channel status of CSR (DMA-330 manual, channel status registers).
@@ -276,70 +285,39 @@ fn push_header(first: &Moment, wave: &mut Vec<u8>) -> Result<(), AllocError>
 }
 
 /// Appends the header and each signal's value at the first instruction, if a waveform is wanted.
-pub fn push_first(
-    options: &TraceOptions,
-    channel: &Channel,
-    front: &Front,
-    wave: &mut Vec<u8>,
-) -> Result<(), AllocError>
-    requires { IsSome channel.now.program }
-    ensures ok { OnOk result (wave.new.items ≡ wave.old.items
-        ++ if_wave options.now (first_text (executing 0 (ahead_of channel.now) front.now))) }
+pub fn push_first(options: &TraceOptions, at: &Point, wave: &mut Vec<u8>) -> Result<(), AllocError>
+    ensures ok { OnOk result (wave.new.items
+        ≡ wave.old.items ++ if_wave options.now (first_text (executing at.now))) }
     ensures begins { Begins wave.new.items wave.old.items }
 {
     if !options.wave {
         return Ok(());
     }
-    let at = Point {
-        ahead: channel.ahead(),
-        steps: 0,
-        front: *front,
-    };
-    push_header(&Moment { at, answer: None }, wave)
+    push_header(&Moment::executing(at), wave)
 }
 
-// Appends the changes from an instruction to the next.
-fn push_change(before: &Moment, after: &Moment, wave: &mut Vec<u8>) -> Result<(), AllocError>
-    ensures ok { OnOk result (wave.new.items ≡ wave.old.items ++ change_text before.now after.now) }
-    ensures begins { Begins wave.new.items wave.old.items }
-{
-    let time = Time(u64::from(after.at.steps));
-    let all = false;
-    (time, Signals { all, before, after }).push(wave)
-}
-
-/// Appends the changes from an instruction to the channel's next one, if a waveform is wanted.
+/// Appends the changes from an instruction to the next one, if a waveform is wanted.
 pub fn push_next(
     options: &TraceOptions,
     at: &Point,
-    channel: &Channel,
-    front: &Front,
+    next: &Point,
     wave: &mut Vec<u8>,
 ) -> Result<(), AllocError>
-    requires program { IsSome channel.now.program }
-    requires steps { at.now.steps < u32.MAX }
-    ensures ok { OnOk result (wave.new.items ≡ wave.old.items ++ if_wave options.now (change_text
-        (executing at.now.steps at.now.ahead at.now.front)
-        (executing (at.now.steps + 1) (ahead_of channel.now) front.now))) }
+    ensures ok { OnOk result (wave.new.items ≡ wave.old.items
+        ++ if_wave options.now (change_text (executing at.now) (executing next.now))) }
     ensures begins { Begins wave.new.items wave.old.items }
 {
     if !options.wave {
         return Ok(());
     }
-    let next = Point {
-        ahead: channel.ahead(),
-        steps: at.steps + 1,
-        front: *front,
+    let before = Moment::executing(at);
+    let after = Moment::executing(next);
+    let signals = Signals {
+        all: false,
+        before: &before,
+        after: &after,
     };
-    let before = Moment {
-        at: *at,
-        answer: None,
-    };
-    let after = Moment {
-        at: next,
-        answer: None,
-    };
-    push_change(&before, &after, wave)
+    (Time(u64::from(next.steps)), signals).push(wave)
 }
 
 /// Appends the waveform's end, if a waveform is wanted. `answer` is that of the last step, made at this instruction.
@@ -350,17 +328,14 @@ pub fn push_last(
     wave: &mut Vec<u8>,
 ) -> Result<(), AllocError>
     ensures ok { OnOk result (wave.new.items ≡ wave.old.items ++ if_wave options.now (last_text
-        (executing at.now.steps at.now.ahead at.now.front) answer.now)) }
+        (executing at.now) answer.now)) }
     ensures begins { Begins wave.new.items wave.old.items }
 {
     if !options.wave {
         return Ok(());
     }
     let steps = u64::from(at.steps);
-    let before = Moment {
-        at: *at,
-        answer: None,
-    };
+    let before = Moment::executing(at);
     let after = Moment {
         at: *at,
         answer: *answer,

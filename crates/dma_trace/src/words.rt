@@ -1,20 +1,23 @@
 //! The words of explanations and traces.
 #![tactic(auto, using(dma_text::proofs::Begun::begins_same, dma_text::proofs::Begun::begins_appended, dma_text::proofs::Begun::begins_more))]
 
-ghost use Rattle.std.specs.Prelude.{◌≡◌, ◌<◌, ◌++◌, OnOk, Result, Ok, Err, slice_get};
+ghost use Rattle.std.specs.Prelude.{◌≡◌, ◌<◌, ◌++◌, IsSome, OnOk, Result, Ok, Err, slice_get};
 ghost use Rattle.std.specs.Option.{option_map};
 ghost use Rattle.dma_insn.specs.ControlWord.{control_of};
 ghost use Rattle.dma_chan.specs.declared.turn.FaultKind.{FaultKind};
 ghost use Rattle.dma_text.specs.Text.{Begins};
+ghost use Rattle.dma_trace.specs.Front.{point_of};
 ghost use Rattle.dma_trace.specs.Words.{cause_text, chip_only_at, control_text, control_words, end_text, fault_name, fault_text, fault_words, fetch_words, long_text, next_text, operand_words, on_chip_bus, place_text, refused_words, state_text, undefined_words};
 
 use crate::amounts::{Bytes, Instructions, Offset, Range};
 use crate::columns::FrontColumns;
-use crate::front::Front;
 use dma_chan::bursts::{destination_burst, source_burst};
 use dma_chan::bus::Bus;
+use dma_chan::channel::Channel;
+use dma_chan::exec::Registers;
 use dma_chan::turn::FaultKind;
 use dma_explain::explain::Cause;
+use dma_explain::explain::tracer::read_of;
 use dma_insn::chip::ChipInsn;
 use dma_insn::control::{Control, ControlFault};
 use dma_manual::chip_only::{chip_only_name, needs_chip_bus};
@@ -67,6 +70,13 @@ impl Text for ControlText {
     }
 }
 
+/// The registers of a channel, and how many bytes its buffer holds.
+#[derive(Clone, Copy)]
+pub struct Front {
+    pub registers: Registers,
+    pub held: u32,
+}
+
 /// An instruction that a channel is about to execute.
 #[derive(Clone, Copy)]
 pub struct Point {
@@ -76,6 +86,23 @@ pub struct Point {
     pub steps: u32,
     /// The registers.
     pub front: Front,
+}
+
+impl Point {
+    /// Returns the next instruction of a channel, after `steps` others.
+    pub fn of(channel: &Channel, steps: u32) -> Point
+        requires { IsSome channel.now.program }
+        ensures { result ≡ point_of steps channel.now }
+    {
+        Point {
+            ahead: channel.ahead(),
+            steps,
+            front: Front {
+                registers: channel.registers(),
+                held: channel.buffered(),
+            },
+        }
+    }
 }
 
 /// Returns the first byte of the instruction at an offset, if the program has one there.
@@ -236,8 +263,8 @@ fn push_fault(
             ("the buffer holds ", held, (", the store needs ", len)).push(out)
         }
         FaultKind::InstrFetchErr => fetch_words(first, &at.ahead).push(out),
-        FaultKind::DataWriteErr => ("it can't store ", Range::of(stores)).push(out),
-        FaultKind::DataReadErr => ("it can't load ", Range::of(loads)).push(out),
+        FaultKind::DataWriteErr => ("it can't store ", Range(read_of(stores))).push(out),
+        FaultKind::DataReadErr => ("it can't load ", Range(read_of(loads))).push(out),
     }
 }
 
@@ -286,8 +313,8 @@ impl Text for Why<'_> {
         match self.cause {
             Cause::TooLong => "the program has more than 8192 bytes".push(out),
             Cause::Fails(kind) => Failure { kind, first, at }.push(out),
-            Cause::LoadsPast => ("the load ends above 2^32: ", Range::of(loads)).push(out),
-            Cause::StoresPast => ("the store ends above 2^32: ", Range::of(stores)).push(out),
+            Cause::LoadsPast => ("the load ends above 2^32: ", Range(read_of(loads))).push(out),
+            Cause::StoresPast => ("the store ends above 2^32: ", Range(read_of(stores))).push(out),
             Cause::StoresFixed => {
                 "the destination is fixed: each beat overwrites the one before".push(out)
             }

@@ -1,52 +1,63 @@
-use Rattle.std.proofs.Common.{sym, ◌∙◌, arith}
-use Rattle.dma_chan.proofs.NextFits.{next_fits}
-use Rattle.dma_trace.proofs.Fronts.{can_here, follows_here, front_on, never, next_here, touches_on, within_on, within_untraced}
+use Rattle.std.proofs.Common.{◌≡◌, ℕ, ◌+◌, Ok, ap, subst, ◌∙◌, arith}
+use Rattle.dma_insn.specs.declared.chip.ChipInsn.{ChipInsn}
+use Rattle.dma_chan.specs.{declared.exec.Registers.Registers, Exec.start_on}
+use Rattle.dma_explain.specs.inner.Tracing.{Follows, IsNew}
+use Rattle.dma_explain.proofs.Explaining.{follows_new, next_here}
+use Rattle.dma_trace.specs.Touches.{after_touch, touches_in}
+use Rattle.dma_trace.proofs.Reached.{never, one_more, touches_on}
 use Rattle.dma_trace.proofs.explain.reached.Goals as goal
 
-pub advance-requires : goal.advance-requires
-advance-requires g c =
-    let bus = c.args.bus in
-    let program = c.args.program.now in
-    let n = c.loop-done.done in
-    let front = c.loop-done.front in
-    let next = next_here bus program n front _ c.loop-done.invariant.front c.in-Ok.ensures.value in
-    let w = follows_here bus program n c.in-Ok.insn next (c.requires.goes n c.loop-done-test.true) c.loop-done.invariant.within in
-    let can = can_here bus program n front c.in-Ok.insn c.loop-done.invariant.front w in
+pub loop-done-init : goal.loop-done-init
+loop-done-init g c = record {
+  follows = follows_new (start_on c.args.bus) c.args.program.now c.new-tracer.result
+      (subst (λ (r : Registers). IsNew r c.new-tracer.result) c.start.ensures c.new-tracer.ensures);
+  touches = c.none-touches.ensures;
+}
+
+pub on-requires : goal.on-requires
+on-requires g c = record { offset = c.loop-done.invariant.follows.pc; limit = c.requires.long }
+
+pub unreachable-requires : goal.unreachable-requires
+unreachable-requires g c =
+    let now = c.loop-done in
+    never c.args.program.now _ c.in_default.field-0
+    (next_here (start_on c.args.bus) c.args.program.now now.done now.tracer c.on.result now.invariant.follows c.on.ensures ∙ c.in_default.is)
+    (c.requires.goes now.done c.loop-done-test.true)
+
+pub run-requires : goal.run-requires
+run-requires g c =
+    let now = c.loop-done in
+    let w = now.invariant.follows in
+    let next = next_here (start_on c.args.bus) c.args.program.now now.done now.tracer _ w c.in-Ok.ensures in
     record {
-      fits = can.0;
-      pc = omega (
-        arith,
-        c.requires.long,
-        next_fits front.registers.bus program front.registers.pc c.in-Ok.insn c.in-Ok.ensures.within
-            (sym c.in-Ok.ensures.value),
-      );
-      room = can.1;
+      tracer = w.tracer;
+      next = c.in-Ok.ensures;
+      other = λ e. (c.requires.goes now.done c.loop-done-test.true).0 (next ∙ ap (λ (i : ChipInsn). Ok i) e);
+      most = omega arith;
+      stored = omega (arith, w.stored, c.loop-done-test.true, c.ranges.steps);
+      bursts = omega (arith, w.counts, c.loop-done-test.true, c.ranges.steps);
+      offset = w.pc;
+      limit = c.requires.long;
     }
 
 pub loop-done-preserved : goal.loop-done-preserved
 loop-done-preserved g c =
     let bus = c.args.bus in
     let program = c.args.program.now in
-    let n = c.loop-done.done in
-    let i = c.in-Ok.insn in
-    let next = next_here bus program n c.loop-done.front _ c.loop-done.invariant.front c.in-Ok.ensures.value in
-    let w = follows_here bus program n i next (c.requires.goes n c.loop-done-test.true) c.loop-done.invariant.within in
-    let after = c.advance.ensures in
+    let now = c.loop-done in
+    let w = now.invariant.follows in
     record {
-      front = front_on bus program n c.loop-done.front c.advance.new.self i c.loop-done.invariant.front next w after.registers after.held;
-      within = within_on bus program n i next w;
-      touches = touches_on bus program n c.args.addr c.loop-done.front i c.loop-done.touches c.add.new.self c.loop-done.invariant.front next
-          c.loop-done.invariant.touches c.add.ensures;
+      follows = one_more (start_on bus) program now.done now.tracer c.run.new.self c.run.result c.if-is_err.ensures.value c.run.ensures.some
+          c.run.ensures.leads w;
+      touches = touches_on bus program now.done c.args.addr now.tracer c.in-Ok.next now.touches c.add.new.self w c.in-Ok.ensures now.invariant.touches
+          (c.add.ensures ∙ ap (λ (i : ChipInsn). after_touch i c.args.addr (now.done + 1) now.tracer.registers now.touches) c.insn-insn.ensures);
     }
 
-pub loop-done-init : goal.loop-done-init
-loop-done-init g c = record { front = c.start-front.ensures; within = within_untraced c.args.bus; touches = c.none-touches.ensures }
-
-pub unreachable-requires : goal.unreachable-requires
-unreachable-requires g c =
-    let bus = c.args.bus in
-    let program = c.args.program.now in
-    let n = c.loop-done.done in
-    never bus program n c.in_default.field-0
-    (next_here bus program n c.loop-done.front c.ahead.result c.loop-done.invariant.front c.ahead.ensures.value ∙ c.in_default.is)
-    (c.requires.goes n c.loop-done-test.true)
+pub returns : goal.returns
+returns g c =
+    let now = c.loop-done in
+    let all : now.done ≡ c.args.steps = omega (arith, c.loop-done-test.false, now.auto.done-end) in
+    record {
+      follows = subst (λ (n : ℕ). Follows (start_on c.args.bus) c.args.program.now n now.tracer) all now.invariant.follows;
+      touches = now.invariant.touches ∙ ap (touches_in c.args.bus c.args.program.now c.args.addr) all;
+    }

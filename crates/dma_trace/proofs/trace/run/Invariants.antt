@@ -8,7 +8,7 @@ use Rattle.dma_trace.proofs.trace.run.Given as goal
 abbrev pub invariant-loop-steps : goal.invariant-loop-steps
 invariant-loop-steps g l = record {
   goes : Goes l.options (with_gaps_of l.fn.regions l.marks) l.fn.regions (opening l.options l.program (image_of (pieces_of l.fn.regions))) l.steps l.channel
-      l.regions l.events l.front l.fn.out.items l.out.items;
+      l.regions l.events l.at l.fn.out.items l.out.items;
   wave : Waves l.options (with_gaps_of l.fn.regions l.marks) (opening l.options l.program (image_of (pieces_of l.fn.regions))) l.steps l.fn.wave.items
       l.wave.items;
   err : l.err.items ≡ l.fn.err.items;

@@ -1,7 +1,8 @@
 use Rattle.std.proofs.Common.{◌≡◌, ◌++◌, OnOk, subst}
 use Rattle.std.specs.Prelude.{codes}
 use Rattle.dma_chan.specs.declared.bursts.Burst.{Burst}
-use Rattle.dma_trace.specs.{declared.amounts.Range.Range, Words.fault_words, Words.range_text, Words.span_text}
+use Rattle.dma_explain.specs.declared.explain.Repeated.{Repeated}
+use Rattle.dma_trace.specs.{Words.fault_words, Words.range_text, Words.span_text}
 use Rattle.dma_trace.proofs.words.push_fault.Goals as goal
 
 pub returns-in-DataReadErr-clause-ok : goal.returns-in-DataReadErr-clause-ok
@@ -9,6 +10,6 @@ unfolding fault_words
 returns-in-DataReadErr-clause-ok c =
     let P : Burst → Type 0 = λ b. OnOk c.push-in-DataReadErr.result
     (c.push-in-DataReadErr.new.out.items ≡ c.args.out.now.items ++ (codes "it can't load " ++ span_text b)) in
-    let Q : Range → Type 0 = λ s. OnOk c.push-in-DataReadErr.result
+    let Q : Repeated → Type 0 = λ s. OnOk c.push-in-DataReadErr.result
     (c.push-in-DataReadErr.new.out.items ≡ c.args.out.now.items ++ (codes "it can't load " ++ range_text s.addr s.len s.times)) in
-    rw c.in-DataReadErr.is (subst P c.source_burst-loads.ensures.value (subst Q c.of-in-DataReadErr.ensures c.push-in-DataReadErr.ensures.ok))
+    rw c.in-DataReadErr.is (subst P c.source_burst-loads.ensures.value (subst Q c.read_of-in-DataReadErr.ensures c.push-in-DataReadErr.ensures.ok))

@@ -1,7 +1,8 @@
 use Rattle.std.proofs.Common.{◌≡◌, ◌++◌, ℕ, OnOk, subst}
 use Rattle.std.specs.Prelude.{codes}
 use Rattle.dma_chan.specs.declared.bursts.Burst.{Burst}
-use Rattle.dma_trace.specs.{declared.amounts.Range.Range, Words.bytes_text, Words.cause_text, Words.range_text, Words.span_text}
+use Rattle.dma_explain.specs.declared.explain.Repeated.{Repeated}
+use Rattle.dma_trace.specs.{Words.bytes_text, Words.cause_text, Words.range_text, Words.span_text}
 use Rattle.dma_trace.proofs.words.WhyText.push.Goals as goal
 
 pub returns-in-LoadsPast-clause-ok : goal.returns-in-LoadsPast-clause-ok
@@ -9,18 +10,18 @@ unfolding cause_text
 returns-in-LoadsPast-clause-ok c =
     let P : Burst → Type 0 = λ b. OnOk c.push-in-LoadsPast.result
     (c.push-in-LoadsPast.new.out.items ≡ c.args.out.now.items ++ (codes "the load ends above 2^32: " ++ span_text b)) in
-    let Q : Range → Type 0 = λ s. OnOk c.push-in-LoadsPast.result
+    let Q : Repeated → Type 0 = λ s. OnOk c.push-in-LoadsPast.result
     (c.push-in-LoadsPast.new.out.items ≡ c.args.out.now.items ++ (codes "the load ends above 2^32: " ++ range_text s.addr s.len s.times)) in
-    rw c.in-LoadsPast.is (subst P c.source_burst-loads.ensures.value (subst Q c.of.ensures c.push-in-LoadsPast.ensures.ok))
+    rw c.in-LoadsPast.is (subst P c.source_burst-loads.ensures.value (subst Q c.read_of.ensures c.push-in-LoadsPast.ensures.ok))
 
 pub returns-in-StoresPast-clause-ok : goal.returns-in-StoresPast-clause-ok
 unfolding cause_text
 returns-in-StoresPast-clause-ok c =
     let P : Burst → Type 0 = λ b. OnOk c.push-in-StoresPast.result
     (c.push-in-StoresPast.new.out.items ≡ c.args.out.now.items ++ (codes "the store ends above 2^32: " ++ span_text b)) in
-    let Q : Range → Type 0 = λ s. OnOk c.push-in-StoresPast.result
+    let Q : Repeated → Type 0 = λ s. OnOk c.push-in-StoresPast.result
     (c.push-in-StoresPast.new.out.items ≡ c.args.out.now.items ++ (codes "the store ends above 2^32: " ++ range_text s.addr s.len s.times)) in
-    rw c.in-StoresPast.is (subst P c.destination_burst-stores.ensures.value (subst Q c.of-in-StoresPast.ensures c.push-in-StoresPast.ensures.ok))
+    rw c.in-StoresPast.is (subst P c.destination_burst-stores.ensures.value (subst Q c.read_of-in-StoresPast.ensures c.push-in-StoresPast.ensures.ok))
 
 pub returns-in-StoresFixed-clause-ok : goal.returns-in-StoresFixed-clause-ok
 unfolding cause_text
