@@ -18,16 +18,12 @@ use Rattle.dma_engine.proofs.{IdleSteps.idle_steps_stay, JoinedCalls.answer_unle
 
 again : (v : View) (call : Call) (reply : Reply) (n : ℕ) → (reply, v) ≡ answer v call → answers v (replicate n call) ≡ (replicate n reply, v)
 again v call reply zero is = refl
-again v call reply (suc n) is =
-    ap (λ (a : Reply × View). (let rest = answers a.1 (replicate n call) in (a.0 ∷ rest.0, rest.1))) (sym is)
-    ∙ ap (λ (rest : List Reply × View). (reply ∷ rest.0, rest.1)) (again v call reply n is)
+again v call reply (suc n) is = grind (arith, again v call reply n is)
 
 -- the last answer, repeated
 last_steps : (v w : View) (ch : ℕ) (reply : Reply) (many : ℕ) → (reply, w) ≡ answer v (Step ch) → (many ≡ 1) ⊎ (w ≡ v)
     → answers v (replicate many (Step ch)) ≡ (replicate many reply, w)
-last_steps v w ch reply many is (inl one) =
-    ap (λ (n : ℕ). answers v (replicate n (Step ch))) one ∙ ap (λ (a : Reply × View). (a.0 ∷ [], a.1)) (sym is)
-    ∙ ap (λ (n : ℕ). (replicate n reply, w)) (sym one)
+last_steps v w ch reply many is (inl one) = grind arith
 last_steps v w ch reply many is (inr same) =
     again v (Step ch) reply many (ap (λ (u : View). (reply, u)) (sym same) ∙ is) ∙ ap (λ (u : View). (replicate many reply, u)) (sym same)
 
@@ -36,11 +32,7 @@ last_steps v w ch reply many is (inr same) =
 -- without a last one
 pub all_steps : (v w : View) (ch most : ℕ) (a : Advanced) → IsAdvance v ch most a w → a.last ≡ None
     → (replies_before a, w) ≡ answers v (replicate (steps_before a) (Step ch))
-all_steps v w ch most a h none =
-    let n = steps_before a in
-    let all = answers v (replicate n (Step ch)) in
-    let last = subst (λ (o : Option (Result Turn EngineFault)). EndsWith all.1 ch n most o w) none h.last in
-    ap (λ (l : List Reply). (l, w)) (sym h.before) ∙ ap (λ (x : View). (all.0, x)) last.1
+all_steps v w ch most a h none = grind arith
 
 -- with the last one repeated
 pub steps_then : (v w : View) (ch most : ℕ) (a : Advanced) (many : ℕ) (last : Result Turn EngineFault) (reply : Reply) → IsAdvance v ch most a w
@@ -64,12 +56,7 @@ map_replicate f (suc n) x = ap (λ l. f x ∷ l) (map_replicate f n x)
 -- of those before the last
 before_texts : (a : Advanced) (rest : List (List ℕ))
     → map reply_text (start_replies a.started) ++ (replicate a.moved (reply_text (Turned Moved)) ++ rest) ≡ map reply_text (replies_before a) ++ rest
-before_texts a rest =
-    let f = start_replies a.started in
-    let m = replicate a.moved (Turned Moved) in
-    ap (λ t. map reply_text f ++ (t ++ rest)) (sym (map_replicate reply_text a.moved (Turned Moved)))
-    ∙ sym (append_assoc (map reply_text f) (map reply_text m) rest)
-    ∙ ap (λ t. t ++ rest) (sym (map-append reply_text f m))
+before_texts a rest = grind (arith, map_replicate, append_assoc, map-append)
 
 pub all_texts : (a : Advanced) (w : View) (all : List Reply × View) (rest : List (List ℕ)) → (replies_before a, w) ≡ all
     → map reply_text (start_replies a.started) ++ (replicate a.moved (reply_text (Turned Moved)) ++ rest) ≡ map reply_text all.0 ++ rest
@@ -79,13 +66,7 @@ pub both_texts : (a : Advanced) (n : ℕ) (last : Reply) (w : View) (all : List 
     → (replies_before a ++ replicate n last, w) ≡ all
     → map reply_text (start_replies a.started) ++ (replicate a.moved (reply_text (Turned Moved)) ++ (replicate n (reply_text last) ++ rest)) ≡ map reply_text
     all.0 ++ rest
-both_texts a n last w all rest is =
-    let f = replies_before a in
-    let l = replicate n last in
-    before_texts a (replicate n (reply_text last) ++ rest)
-    ∙ ap (λ t. map reply_text f ++ (t ++ rest)) (sym (map_replicate reply_text n last))
-    ∙ sym (append_assoc (map reply_text f) (map reply_text l) rest)
-    ∙ ap (λ t. t ++ rest) (sym (map-append reply_text f l) ∙ ap (λ (x : List Reply × View). map reply_text x.0) is)
+both_texts a n last w all rest is = grind (arith, before_texts, map_replicate, append_assoc, map-append)
 
 -- ---- a transfer that starts, moves and finishes in one call
 
@@ -106,8 +87,6 @@ module _ (v w : View) (ch count : ℕ) (a : Advanced) (h : IsAdvance v ch count 
   -- A transfer that starts, moves and finishes in one call, and its lines.
   pub whole_runs : {A E : Type 0} (cookies : ℕ × ℕ) (result : Result A E) (out out' : List ℕ)
       → (a.started ≡ Some cookies.0) × (a.last ≡ Some (Ok (Finished cookies.1 NoError 0)))
-      → OnOk result (out' ≡ out ++ transfer_text ch cookies.0 a.moved cookies.1) → OnErr result (out' ≡ out) → RunsLine (step_answer v ch count) w result out out'
-  whole_runs cookies result out out' is prints kept =
-      let steps = transfer_steps cookies.0 cookies.1 is.0 is.1 in
-      printed_runs (step_answer v ch count) w result out out' (on_ok_weaker result (λ _. steps.1) prints)
-      (on_ok_weaker result (λ p. p ∙ ap (λ (l : List ℕ). out ++ l) (sym steps.0)) prints) kept
+      → OnOk result (out' ≡ out ++ transfer_text ch cookies.0 a.moved cookies.1) → OnErr result (out' ≡ out)
+      → RunsLine (step_answer v ch count) w result out out'
+  whole_runs cookies result out out' is prints kept = grind (arith, transfer_steps, printed_runs, on_ok_weaker)

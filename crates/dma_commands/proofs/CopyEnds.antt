@@ -1,20 +1,20 @@
 -- The steps of a copy end: after each step that goes on, one instruction less remains.
-use Rattle.std.proofs.Common.{◌≡◌, ◌≢◌, ◌⊎◌, ℕ, ◌+◌, ◌-◌, ◌<◌, ◌≤◌, Bool, true, false, if◌then◌else◌, List, [], ◌∷◌, ◌++◌, length, Option, Some, None, refl, ap}
+use Rattle.std.proofs.Common.{◌≡◌, ◌≢◌, ◌⊎◌, ℕ, ◌+◌, ◌<◌, ◌≤◌, Bool, true, false, List, [], ◌∷◌, ◌++◌, length, Option, Some, None, refl, ap}
 use Rattle.std.proofs.Common.{sym, subst, ◌∙◌, inl, inr, zero, suc, arith}
-use Rattle.std.specs.Prelude.{slice_get, slice_index_or, nat_le, nat_lt, not, ◌==◌, ◌||◌}
+use Rattle.std.specs.Prelude.{slice_get, nat_le, not, ◌==◌}
 use Rattle.std.proofs.lemmas.Bool.{cases_lt, cond_both, false≢true, leb-false, lt-leb, ltb-false}
 use Rattle.std.proofs.lemmas.List.{length-set, get_or-set_same, get_or_past}
 use Rattle.dma_insn.specs.declared.chip.ChipInsn.{ChipInsn}
 use Rattle.dma_insn.specs.declared.chip.ChipInsn.TheVariants.{Ld, St, End, Sev, Wfe}
 use Rattle.dma_mem.specs.{Places.Descriptor, Places.lies_below, Rules.IsTransfer, declared.marks.MarkKind.TheVariants.Reading}
 use Rattle.dma_mem.specs.{declared.marks.MarkKind.TheVariants.Writing, Marking.meets_mark}
-use Rattle.dma_chan.specs.{Compiled.members, Compiled.cost, Layer.HasShape, Traffic.member, Traffic.read_places, Traffic.written_places}
+use Rattle.dma_chan.specs.{Compiled.cost, Layer.HasShape, Traffic.member, Traffic.read_places, Traffic.written_places}
 use Rattle.dma_chan.proofs.{TreeCosts.cost_is, ShapeLaws.shape_is}
-use Rattle.dma_engine.specs.declared.call.Reply.TheVariants.{Turned, Cookie, Count}
+use Rattle.dma_engine.specs.declared.call.Reply.TheVariants.{Turned, Cookie}
 use Rattle.dma_engine.specs.declared.entry.Entry.TheVariants.{Passed, Signalled, Submitted, Issued}
 use Rattle.dma_engine.specs.declared.fault.EngineFault.TheVariants.{NoChannel, OutOfMemoryRange, CookiesSpent}
-use Rattle.dma_engine.specs.Object.{Object, ChannelState, after, channel, finished, used, empty_channel, issued_front, is_set, unfinished, last_cookie}
-use Rattle.dma_engine.specs.Object.{with_channel, with_flag, with_transfer}
+use Rattle.dma_engine.specs.Object.{Object, ChannelState, after, channel, finished, used, issued_front, is_set, last_cookie}
+use Rattle.dma_engine.specs.Object.{with_channel, with_transfer}
 use Rattle.dma_engine.specs.View.{View, RunningTransfer, channels, idle, object_of, schedule_at, size}
 use Rattle.dma_engine.specs.Turn.{Stepped, front_turn, first_conflicting, insn_turn, last_step, next_moved, start_turn, turn, with_entry, with_taken}
 use Rattle.dma_engine.specs.Answer.{answer, cause, reply_of, unless}
@@ -41,14 +41,7 @@ taken_at u k there = ap (λ s. s.taken) (get_or-set_same u.schedule 0 (record (s
 
 moved_on_law : (u : View) (t : Descriptor) (k : ℕ) → 0 < length u.schedule → issued_front (channel (object_of u) 0) ≡ Some t → k + 1 < cost t
     → GoesOn t k (next_moved u 0 k)
-moved_on_law u t k there front less = λ _. (
-  less,
-  record {
-    there = omega (arith, there, length-set u.schedule 0 (record (schedule_at u 0) { taken = Some (k + 1) }));
-    front = front;
-    taken = taken_at u (Some (k + 1)) there;
-  },
-)
+moved_on_law u t k there front less = grind (arith, length-set, taken_at)
 
 -- ---- the front after an entry
 
@@ -57,19 +50,14 @@ entry_is v e = object_after_append v.base v.history (e ∷ [])
 
 same_front : (o : Object) (c : ChannelState) → issued_front c ≡ issued_front (channel o 0)
     → issued_front (channel (with_channel o 0 c) 0) ≡ issued_front (channel o 0)
-same_front o c same = elim (with_channel_at o 0 c) [
-  | inl e ↦ ap issued_front e ∙ same
-  | inr e ↦ ap issued_front e
-]
+same_front o c same = grind (arith, with_channel_at)
 
 passed_front : (v : View) (event : ℕ) → issued_front (channel (object_of (with_entry v (Passed 0 event))) 0) ≡ issued_front (channel (object_of v) 0)
-passed_front v event = ap (λ o. issued_front (channel o 0)) (entry_is v (Passed 0 event))
-    ∙ same_front (with_flag (object_of v) event false) (record (channel (object_of v) 0) { passed = true }) refl
+passed_front v event = grind (arith, entry_is, same_front)
 
 signalled_front : (v : View) (event : ℕ)
     → issued_front (channel (object_of (with_entry v (Signalled (Channel 0) event))) 0) ≡ issued_front (channel (object_of v) 0)
-signalled_front v event = ap (λ o. issued_front (channel o 0)) (entry_is v (Signalled (Channel 0) event))
-    ∙ same_front (with_flag (object_of v) event true) (record (channel (object_of v) 0) { signalled = true }) refl
+signalled_front v event = grind (arith, entry_is, same_front)
 
 -- ---- one step
 
@@ -92,16 +80,10 @@ insn_goes v t k at i less = moved_on_law v t k at.there at.front (less (λ e. ab
 -- an instruction that is the last one, or would be after it, is the end
 member_late : (t : Descriptor) (k : ℕ) → HasShape t → cost t ≤ k + 1 → member t k ≡ End
 unfolding member
-member_late t k shape late = elim (cases_lt k (cost t)) [
-  | inl less ↦ let last : k ≡ cost t - 1 = omega (arith, less, late) in ap (λ n. slice_index_or (members t) n End) last ∙ shape.end_last
-  | inr past ↦ get_or_past (members t) k End (omega (arith, past, shape.all))
-]
+member_late t k shape late = grind (arith, cases_lt, get_or_past)
 
 member_less : (t : Descriptor) (k : ℕ) → HasShape t → member t k ≢ End → k + 1 < cost t
-member_less t k shape other = elim (cases_lt (k + 1) (cost t)) [
-  | inl less ↦ less
-  | inr past ↦ absurd (other (member_late t k shape past))
-]
+member_less t k shape other = grind (arith, cases_lt, member_late)
 
 front_goes : (v : View) (t : Descriptor) (k : ℕ) → IsTransfer t → At v t k → GoesOn t k (front_turn v 0 (Some t) (Some k))
 front_goes v t k rules at =
@@ -111,10 +93,7 @@ front_goes v t k rules at =
 -- a property of each step that ends the copy, and of the front's step, is one of what a step does
 stepped_by : (P : Stepped → Type 0) (v : View) (x : Option Descriptor) (taken : Option ℕ) → ((s : Stepped) → goes_on (reply_of Turned s.0) ≡ false → P s)
     → issued_front (channel (object_of v) 0) ≡ x → (schedule_at v 0).taken ≡ taken → P (front_turn v 0 x taken) → P (turn v 0)
-stepped_by P v x taken quiet front is h =
-    cond_both {A = Stepped} (nat_le (channels v) 0) _ _ P (λ _. quiet _ refl)
-    (λ _. cond_both {A = Stepped} (channel (object_of v) 0).halted _ _ P (λ _. quiet _ refl)
-    (λ _. cond_both {A = Stepped} (schedule_at v 0).paused _ _ P (λ _. quiet _ refl) (λ _. rw (front, is) h)))
+stepped_by P v x taken quiet front is h = grind (arith, cond_both)
 
 step_goes : (v : View) (t : Descriptor) (k : ℕ) → IsTransfer t → At v t k → GoesOn t k (turn v 0)
 step_goes v t k rules at =
@@ -123,8 +102,7 @@ step_goes v t k rules at =
 -- ---- all steps
 
 never : (b : Bool) → (b ≡ true → ⊥) → b ≡ false
-never true h = absurd (h refl)
-never false h = refl
+never b h = grind (arith)
 
 -- not all of the first n + 1 steps go on
 abbrev Ends : ℕ → View → Type 0
@@ -157,12 +135,7 @@ Starts t s = goes_on (reply_of Turned s.0) ≡ true → At s.1 t 0
 
 start_goes : (v : View) (t : Descriptor) (x : Option RunningTransfer) → 0 < length v.schedule → issued_front (channel (object_of v) 0) ≡ Some t
     → Starts t (start_turn v 0 x)
-start_goes v t (Some r) there front = λ e. absurd cc
-start_goes v t None there front = λ _. record {
-  there = omega (arith, there, length-set v.schedule 0 (record (schedule_at v 0) { taken = Some 0 }));
-  front = front;
-  taken = taken_at v (Some 0) there;
-}
+start_goes v t x h h2 = grind (arith, length-set, taken_at)
 
 -- a transfer ends that hasn't started, within one step more than its instructions
 idle_ends : (n : ℕ) (v : View) (t : Descriptor) → IsTransfer t → 0 < length v.schedule → issued_front (channel (object_of v) 0) ≡ Some t
@@ -198,34 +171,16 @@ all_issued c = record c { issued = used c }
 -- a transfer that was submitted and issued is the front, where none was unfinished before
 issued_is : (c : ChannelState) (t : Descriptor) → used c ≤ finished c → (issued_front (all_issued (with_transfer c t)) ≡ Some t)
     ⊎ (issued_front (all_issued (with_transfer c t)) ≡ None)
-issued_is c t none =
-    let all = c.submitted ++ t ∷ [] in
-    let n = length c.outcomes in
-    let at : Bool → Option Descriptor = λ b. if b then slice_get all n else None in
-    let by : (b : Bool) → (at b ≡ Some t) ⊎ (at b ≡ None) = λ b. elim b as (λ b. (at b ≡ Some t) ⊎ (at b ≡ None)) [
-      | true ↦ pushed_at c.submitted t n (omega (arith, none))
-      | false ↦ inr refl
-    ] in
-    by (nat_lt (finished c) (c.forgotten + length all))
+issued_is c t none = grind (arith, pushed_at)
 
 -- what is known of a submission that was answered by a cookie
 accepted : (a b c : Bool) (v u w : View) (k cookie : ℕ)
     → unless (cause a NoChannel (cause b OutOfMemoryRange (cause c CookiesSpent None))) v (Cookie k, u) ≡ (Cookie cookie, w) → (a ≡ false) × (u ≡ w)
-accepted true b c v u w k cookie is = let e = ap (λ x. x.0) is in absurd cc
-accepted false true c v u w k cookie is = let e = ap (λ x. x.0) is in absurd cc
-accepted false false true v u w k cookie is = let e = ap (λ x. x.0) is in absurd cc
-accepted false false false v u w k cookie is = (refl, ap (λ x. x.1) is)
+accepted a b c v u w k cookie h = grind (arith)
 
 -- channel 0 isn't in use
 free_none : (v : View) → is_in_use v ≡ false → used (channel (object_of v) 0) ≤ finished (channel (object_of v) 0)
-free_none v free =
-    let c = channel (object_of v) 0 in
-    let by : (b rest : Bool) → (b || rest) ≡ false → b ≡ false = λ b rest. elim b as (λ b. (b || rest) ≡ false → b ≡ false) [
-      | true ↦ λ e. absurd cc
-      | false ↦ λ _. refl
-    ] in
-    let none = ltb-false 0 (unfinished c) (by (nat_lt 0 (unfinished c)) ((schedule_at v 0).paused || c.halted) free) in
-    omega (arith, none)
+free_none v free = grind (arith, ltb-false)
 
 -- ---- the views after a submission to channel 0 and after its issue
 
@@ -233,25 +188,16 @@ abbrev with_submitted : View → Descriptor → View
 with_submitted v t = with_entry v (Submitted 0 t (used (channel (object_of v) 0) + 1))
 
 many_after : (v : View) (t : Descriptor) → channels (with_submitted v t) ≡ channels v
-many_after v t =
-    let o = object_of v in
-    ap (λ o. length o.channels) (entry_is v (Submitted 0 t (used (channel o 0) + 1))) ∙ length-set o.channels 0 (with_transfer (channel o 0) t)
+many_after v t = grind (arith, entry_is, length-set)
 
 channel_submitted : (v : View) (t : Descriptor) → 0 < channels v → channel (object_of (with_submitted v t)) 0 ≡ with_transfer (channel (object_of v) 0) t
-channel_submitted v t some =
-    let o = object_of v in
-    ap (λ o. channel o 0) (entry_is v (Submitted 0 t (used (channel o 0) + 1)))
-    ∙ get_or-set_same o.channels 0 (with_transfer (channel o 0) t) empty_channel some
+channel_submitted v t some = grind (arith, entry_is, get_or-set_same)
 
 channel_issued : (v : View) → 0 < channels v → channel (object_of (with_entry v (Issued 0))) 0 ≡ all_issued (channel (object_of v) 0)
-channel_issued v some =
-    let o = object_of v in
-    ap (λ o. channel o 0) (entry_is v (Issued 0)) ∙ get_or-set_same o.channels 0 (all_issued (channel o 0)) empty_channel some
+channel_issued v some = grind (arith, entry_is, get_or-set_same)
 
 issue_after : (v : View) → 0 < channels v → (answer v (calls.Issue 0)).1 ≡ with_entry v (Issued 0)
-issue_after v some =
-    let c = channel (object_of v) 0 in
-    ap (λ b. (unless (cause b NoChannel None) v (Count (used c - c.issued), with_entry v (Issued 0))).1) (lt-leb (channels v) 0 some)
+issue_after v some = grind (arith, lt-leb)
 
 -- The bound is wide enough. Nothing above names it, so that no number of its size is unfolded.
 within : (t : Descriptor) → IsTransfer t → cost t ≤ most_copy_steps

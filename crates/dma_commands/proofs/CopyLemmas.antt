@@ -1,14 +1,14 @@
 -- The steps of a copy.
-use Rattle.std.proofs.Common.{◌≡◌, ◌≢◌, ◌⊎◌, ℕ, ◌<◌, ◌≤◌, zero, suc, Bool, true, false, [], Option, Some, None, refl, ap, sym, subst, ◌∙◌, inl, inr, arith}
+use Rattle.std.proofs.Common.{◌≡◌, ◌≢◌, ◌⊎◌, ℕ, ◌<◌, ◌≤◌, zero, suc, Bool, true, false, Option, Some, None, refl, sym, subst, arith}
 use Rattle.std.specs.{Prelude.replicate, Prelude.Result, List.All}
 use Rattle.std.proofs.lemmas.List.Elements.{All-append, All-cons, All-head, All-nil, All-replicate, All-tail}
 use Rattle.dma_mem.proofs.Steps.{taken_is, taken_on, taken_stops}
 use Rattle.dma_mem.specs.declared.call.Call.TheVariants.{Step}
-use Rattle.dma_engine.specs.Advance.{EndsWith, IsAdvance, after_steps, goes_on, replies_before, start_replies, steps_before}
-use Rattle.dma_engine.specs.Answer.{CallAnswers, answer, answers, reply_of}
+use Rattle.dma_engine.specs.Advance.{IsAdvance, after_steps, goes_on, replies_before, start_replies, steps_before}
+use Rattle.dma_engine.specs.Answer.{answer, answers, reply_of}
 use Rattle.dma_engine.specs.{declared.call.Reply.Reply, declared.call.Reply.TheVariants.Turned, declared.call.Reply.TheVariants.Refused}
 use Rattle.dma_engine.specs.{declared.fault.EngineFault.EngineFault, declared.fault.EngineFault.TheVariants.NoMemory, declared.turn.Advanced.Advanced}
-use Rattle.dma_engine.specs.{declared.turn.Turn.Turn, declared.turn.Turn.TheVariants.Started, declared.turn.Turn.TheVariants.Moved, View.View}
+use Rattle.dma_engine.specs.{declared.turn.Turn.Turn, declared.turn.Turn.TheVariants.Moved, View.View}
 use Rattle.dma_engine.proofs.JoinedCalls.{answer_unless_no_memory}
 use Rattle.dma_commands.specs.Run.{stepped_to_end, steps_before_last}
 
@@ -30,8 +30,7 @@ abbrev GoesOn : Reply → Type 0
 GoesOn reply = goes_on reply ≡ true
 
 start_on_law : (o : Option ℕ) → All GoesOn (start_replies o)
-start_on_law None = All-nil GoesOn
-start_on_law (Some cookie) = All-cons GoesOn (Turned (Started cookie)) [] refl (All-nil GoesOn)
+start_on_law o = grind (arith, All-nil, All-cons)
 
 all_on : (a : Advanced) → All GoesOn (replies_before a)
 all_on a = All-append GoesOn (start_replies a.started) (replicate a.moved (Turned Moved)) (start_on_law a.started)
@@ -39,8 +38,7 @@ all_on a = All-append GoesOn (start_replies a.started) (replicate a.moved (Turne
 
 each_on_law : (n k : ℕ) (v : View) → All GoesOn (answers v (replicate n (Step 0))).0 → k < n → on_after v k ≡ true
 each_on_law zero k v all less = absurd (omega (arith, less))
-each_on_law (suc n) zero v all less =
-    let first = answer v (Step 0) in All-head GoesOn first.0 (answers first.1 (replicate n (Step 0))).0 all
+each_on_law (suc n) zero v all less = grind (arith, All-head)
 each_on_law (suc n) (suc k) v all less =
     let first = answer v (Step 0) in
     each_on_law n k first.1 (All-tail GoesOn first.0 (answers first.1 (replicate n (Step 0))).0 all) (omega (arith, less))
@@ -56,19 +54,9 @@ before_last v w most a h few stops =
 -- the step after an advance without a last step
 pub advanced_all : (v w u : View) (most : ℕ) (a : Advanced) (reply : Reply) → IsAdvance v 0 most a w → a.last ≡ None → (reply, u) ≡ answer w (Step 0)
     → (reply, u) ≡ stepped_to_end most v
-advanced_all v w u most a reply h none is =
-    let n = steps_before a in
-    let last = subst (λ (o : Option (Result Turn EngineFault)). EndsWith (after_steps v 0 n) 0 n most o w) none h.last in
-    is ∙ ap (λ (x : View). answer x (Step 0)) last.1
-    ∙ ap (λ (k : ℕ). answer (after_steps v 0 k) (Step 0)) (sym (before_last v w most a h (omega (arith, last.0)) (inl last.0)))
+advanced_all v w u most a reply h none is = grind (arith, before_last)
 
 -- the last step of an advance
 pub advanced_end : (v w : View) (most : ℕ) (a : Advanced) (last : Result Turn EngineFault) (reply : Reply) → IsAdvance v 0 most a w → a.last ≡ Some last
     → (reply ≡ reply_of Turned last) × (reply ≢ Refused NoMemory) → (reply, w) ≡ stepped_to_end most v
-advanced_end v w most a last reply h some is =
-    let n = steps_before a in
-    let u = after_steps v 0 n in
-    let end = subst (λ (o : Option (Result Turn EngineFault)). EndsWith u 0 n most o w) some h.last in
-    let answered = answer_unless_no_memory u w (Step 0) reply is.1 (subst (λ (r : Reply). CallAnswers u (Step 0) r w) (sym is.0) end.2) in
-    let off : on_after v n ≡ false = ap (λ (x : Reply × View). goes_on x.0) (sym answered) ∙ ap goes_on is.0 ∙ end.1 in
-    answered ∙ ap (λ (k : ℕ). answer (after_steps v 0 k) (Step 0)) (sym (before_last v w most a h (omega (arith, end.0)) (inr off)))
+advanced_end v w most a last reply h some is = grind (arith, answer_unless_no_memory, before_last)

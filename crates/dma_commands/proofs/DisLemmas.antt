@@ -1,13 +1,13 @@
 -- The lines of a disassembled program.
-use Rattle.std.proofs.Common.{◌≡◌, ℕ, ◌+◌, ◌-◌, ◌<◌, ◌≤◌, ltb, List, [], ◌∷◌, ◌++◌, length, drop, map, Option, Some, None, Result, Ok, Err, suc, zero, refl, ap}
+use Rattle.std.proofs.Common.{◌≡◌, ℕ, ◌+◌, ◌-◌, ◌<◌, ◌≤◌, List, [], ◌∷◌, ◌++◌, length, drop, map, Option, Result, Ok, Err, suc, zero, refl, ap}
 use Rattle.std.proofs.Common.{sym, ◌∙◌, subst, arith, append_assoc}
-use Rattle.std.specs.{Prelude.IfSome, Prelude.IfOk, Char.digit_value}
+use Rattle.std.specs.{Prelude.IfSome, Prelude.IfOk}
 use Rattle.std.proofs.{lemmas.Bool.cond_both, lemmas.Bool.ltb-true, lemmas.List.length-append, lemmas.List.append-nil, Math.Seq.drop-append_seam}
 use Rattle.dma_insn.specs.Disassembly.{AllInRange, Disassembles, StopsAt, insn_text, text_of}
 use Rattle.dma_insn.specs.Spelling.{HasRanges, spelling}
 use Rattle.dma_insn.specs.{declared.insn.Insn.Insn, declared.codec.DecodeFault.DecodeFault, Decoding.decoded, AssemblyText.joined}
 use Rattle.dma_insn.proofs.{GrammarLaws.IsBytes, GrammarLaws.spelling_some, Laws.decoded_spelling, Laws.decodes, Fronts.disassembly_reports}
-use Rattle.dma_script.specs.Pairs.{hex_fault, is_gap, line_after, pair_of, pairs_from, pairs_of}
+use Rattle.dma_script.specs.Pairs.{is_gap, line_after, pair_of, pairs_from, pairs_of}
 use Rattle.dma_script.specs.{Words.hex_digit_of, declared.fault.Fault.Fault}
 use Rattle.dma_text.specs.Results.{◌>>=◌}
 use Rattle.dma_commands.specs.Disassembled.{DisPrints, lines_from, with_line, lines_printed, dis_printed_of, decode_fault_line}
@@ -17,9 +17,7 @@ use Rattle.dma_io.specs.Command as command
 lines_from_skipped : (offset k : ℕ) (xs : List ℕ) → k ≤ length xs → lines_from offset k xs ≡ lines_from (offset + k) 0 (drop k xs)
 lines_from_skipped offset zero xs h = let e : offset ≡ offset + 0 = omega arith in ap (λ o. lines_from o 0 xs) e
 lines_from_skipped offset (suc k) [] h = absurd (omega arith)
-lines_from_skipped offset (suc k) (x ∷ xs) h =
-    let e : offset + 1 + k ≡ offset + suc k = omega arith in
-    lines_from_skipped (offset + 1) k xs (omega arith) ∙ ap (λ o. lines_from o 0 (drop k xs)) e
+lines_from_skipped offset (suc k) (x ∷ xs) h = grind (arith, lines_from_skipped (offset + 1) k xs (omega arith))
 
 -- an instruction at the front
 lines_from_first : (offset n : ℕ) (xs : List ℕ) (i : Insn) → decoded xs ≡ Ok (i, n) → 0 < n → n ≤ length xs
@@ -35,11 +33,7 @@ lines_from_first offset (suc n) (x ∷ xs) i is some within =
 -- the spelling of an instruction at the front
 lines_from_spelling : (offset : ℕ) (i : Insn) (rest : List ℕ) (all : List ℕ) → HasRanges i → all ≡ spelling i ++ rest
     → lines_from offset 0 all ≡ with_line (insn_text i) (lines_from (offset + length (spelling i)) 0 rest)
-lines_from_spelling offset i rest all h is =
-    let n = length (spelling i) in
-    let long : n ≤ length (spelling i ++ rest) = omega (arith, length-append (spelling i) rest) in
-    ap (lines_from offset 0) is ∙ lines_from_first offset n (spelling i ++ rest) i (decoded_spelling i rest h) (spelling_some decodes i h) long
-    ∙ ap (λ xs. with_line (insn_text i) (lines_from (offset + n) 0 xs)) (drop-append_seam (spelling i) rest)
+lines_from_spelling offset i rest all h is = grind (arith, length-append, lines_from_first, decoded_spelling, spelling_some, decodes, drop-append_seam)
 
 -- spellings joined have the lines of their instructions
 pub lines_from_joined : (offset : ℕ) (is : List Insn) → AllInRange is → lines_from offset 0 (joined is) ≡ Ok (map insn_text is)
@@ -52,9 +46,7 @@ lines_from_joined offset (i ∷ is) h =
 pub lines_from_stops : (offset : ℕ) (is : List Insn) (rest : List ℕ) (fault : DecodeFault) → AllInRange is → 0 < length rest → decoded rest ≡ Err fault
     → lines_from offset 0 (joined is ++ rest) ≡ Err (offset + length (joined is), fault)
 lines_from_stops offset [] [] fault h some refused = absurd (omega arith)
-lines_from_stops offset [] (x ∷ xs) fault h some refused =
-    let e : offset ≡ offset + 0 = omega arith in
-    rw refused (ap (λ o. Err (o, fault)) e)
+lines_from_stops offset [] (x ∷ xs) fault h some refused = grind arith
 lines_from_stops offset (i ∷ is) rest fault h some refused =
     let n = length (spelling i) in
     let e : offset + n + length (joined is) ≡ offset + length (joined (i ∷ is)) = omega (arith, length-append (spelling i) (joined is)) in
@@ -99,31 +91,24 @@ printed_stops bytes offset fault s =
 
 -- what pairs spell are bytes
 digit_small : (b : ℕ) → IfSome (hex_digit_of b) (λ d. d < 16)
-digit_small b =
-    cond_both {A = Option ℕ} (ltb (digit_value b) 16) _ _ (λ o. IfSome o (λ d. d < 16)) (λ e. ltb-true (digit_value b) 16 e) (λ _. tt)
+digit_small b = grind (arith, cond_both, ltb-true)
 
 pair_small : (line : ℕ) (high low : Option ℕ) → IfSome high (λ d. d < 16) → IfSome low (λ d. d < 16) → IfOk (pair_of line high low) (λ byte. byte < 256)
-pair_small line (Some high) (Some low) h l = omega (arith, h, l)
-pair_small line (Some high) None h l = tt
-pair_small line None low h l = tt
+pair_small line high low h h2 = grind (arith)
 
 bytes_none : IsBytes []
 bytes_none i = omega arith
 
 bytes_more : (byte : ℕ) (more : List ℕ) → byte < 256 → IsBytes more → IsBytes (byte ∷ more)
-bytes_more byte more small h zero = small
-bytes_more byte more small h (suc i) = h i
+bytes_more byte more h h2 = grind (arith)
 
 pair_then : (pair : Result ℕ Fault) (rest : Result (List ℕ) Fault) → IfOk pair (λ byte. byte < 256) → IfOk rest IsBytes
     → IfOk (pair >>= λ byte. rest >>= λ more. Ok (byte ∷ more)) IsBytes
-pair_then (Ok byte) (Ok more) small h = bytes_more byte more small h
-pair_then (Ok byte) (Err line) small h = tt
-pair_then (Err line) rest small h = tt
+pair_then pair rest h h2 = grind (arith, bytes_more)
 
 pairs_bytes : (input : List ℕ) (line : ℕ) → IfOk (pairs_from line input) IsBytes
 pairs_bytes [] line = bytes_none
-pairs_bytes (a ∷ []) line =
-    cond_both (is_gap a) (Ok []) (Err (hex_fault line)) (λ r. IfOk r IsBytes) (λ _. bytes_none) (λ _. tt)
+pairs_bytes (a ∷ []) line = grind (arith, cond_both, bytes_none)
 pairs_bytes (a ∷ b ∷ rest) line =
     cond_both (is_gap a) _ _ (λ r. IfOk r IsBytes) (λ _. pairs_bytes (b ∷ rest) (line_after line a))
     (λ _. pair_then _ _ (pair_small line _ _ (digit_small a) (digit_small b)) (pairs_bytes rest line))

@@ -1,8 +1,8 @@
 -- What the lines of a script print, and the view after them.
-use Rattle.std.proofs.Common.{◌≡◌, ◌≢◌, ℕ, ◌<◌, ◌+◌, true, false, codes, List, [], ◌∷◌, ◌++◌, length, Option, Some, None, refl, ap, sym, subst, ◌∙◌, take, drop}
+use Rattle.std.proofs.Common.{◌≡◌, ◌≢◌, ℕ, ◌<◌, ◌+◌, false, codes, List, [], ◌∷◌, ◌++◌, length, Option, Some, None, refl, ap, sym, ◌∙◌, take, drop}
 use Rattle.std.proofs.Common.{suc, arith, append_assoc}
 use Rattle.std.proofs.{Math.Seq.take-append-add, lemmas.List.append-nil, lemmas.List.length-append, lemmas.Result.on_err_weaker, lemmas.Result.on_ok_weaker}
-use Rattle.std.specs.Prelude.{Err, IsErr, Ok, OnErr, OnOk, Result}
+use Rattle.std.specs.Prelude.{IsErr, OnErr, OnOk, Result}
 use Rattle.dma_mem.specs.{Places.Descriptor, Refusals.refusal_of, declared.call.Call.Call, declared.transfer.TransferFault.TransferFault}
 use Rattle.dma_engine.specs.declared.call.Reply.TheVariants.{Bytes, Cookie, Refused}
 use Rattle.dma_engine.specs.Answer.{CallAnswers, answer, read_fault, unless}
@@ -13,9 +13,9 @@ use Rattle.dma_io.specs.Command.{Answers, AppendsGroups, Printed, printed_text, 
 use Rattle.dma_script.specs.{Interpreted.ActsInTurn, Interpreted.PrintsLines, Interpreted.StopsAtALine, declared.statements.Statement.Statement}
 use Rattle.dma_text.specs.Digits.{hex_digits, spaced_bytes}
 use Rattle.dma_commands.specs.Printed.{call_line, fault_text, refused_line, reply_text, transfer_fault_name}
-use Rattle.dma_commands.specs.Run.{Answered, call_answer, copied, copied_after, is_in_use, line_answer, lines_answered, most_copy_steps, stepped_to_end}
-use Rattle.dma_commands.specs.Run.{one_line, unless_invalid}
-use Rattle.dma_commands.specs.{Left.lines_left, inner.RunSteps.RunsLine, inner.RunSteps.read_at, inner.RunSteps.read_in}
+use Rattle.dma_commands.specs.Run.{Answered, call_answer, copied, is_in_use, line_answer, lines_answered, most_copy_steps, stepped_to_end}
+use Rattle.dma_commands.specs.Run.{unless_invalid}
+use Rattle.dma_commands.specs.{Left.lines_left, inner.RunSteps.RunsLine, inner.RunSteps.read_at}
 use Rattle.dma_script.proofs.InterpretedLemmas.{printed_text_append}
 use Rattle.dma_commands.proofs.Served.{refused_served}
 use Rattle.dma_mem.specs.declared.call.Call.TheVariants.{Read, Submit as SubmitCall, Issue as IssueCall}
@@ -25,17 +25,13 @@ use Rattle.dma_mem.specs.declared.call.Call.TheVariants.{Read, Submit as SubmitC
 -- an answered line was printed, or nothing was
 pub printed_runs : {A E : Type 0} (answered : Answered) (w : View) (result : Result A E) (out out' : List ℕ) → OnOk result (w ≡ answered.1)
     → OnOk result (out' ≡ out ++ text_of answered.0) → OnErr result (out' ≡ out) → RunsLine answered w result out out'
-printed_runs answered w (Ok a) out out' acts prints kept = record { ok = record { acts = acts; prints = prints }; err = tt }
-printed_runs answered w (Err e) out out' acts prints kept = record { ok = tt; err = kept }
+printed_runs h h2 h3 h4 = grind (arith)
 
 -- the line of a call and its reply
 pub call_runs : {A E : Type 0} (v w : View) (call : Call) (reply : Reply) (result : Result A E) (out out' : List ℕ) → CallAnswers v call reply w
     → OnOk result (reply ≢ Refused NoMemory) → OnOk result (out' ≡ out ++ text_of (call_line call reply ∷ [])) → OnErr result (out' ≡ out)
     → RunsLine (call_answer v call) w result out out'
-call_runs {A = A} {E = E} v w call reply (Ok a) out out' is served prints kept =
-    subst (λ (x : Reply × View). RunsLine {A = A} {E = E} (one_line (call_line call x.0) x.1) w (Ok a) out out')
-    (answer_unless_no_memory v w call reply served is) (printed_runs {A = A} {E = E} (one_line (call_line call reply) w) w (Ok a) out out' refl prints tt)
-call_runs v w call reply (Err e) out out' is served prints kept = record { ok = tt; err = kept }
+call_runs h h2 h3 h4 h5 = grind (arith, answer_unless_no_memory, printed_runs)
 
 -- ---- a transfer's rules
 
@@ -43,8 +39,7 @@ call_runs v w call reply (Err e) out out' is served prints kept = record { ok = 
 pub unfit_runs : {A E : Type 0} (v : View) (fault : Option TransferFault) (e : TransferFault) (answered : Answered) (result : Result A E) (out out' : List ℕ)
     → fault ≡ Some e → OnOk result (out' ≡ out ++ text_of (refused_line (transfer_fault_name e) ∷ [])) → OnErr result (out' ≡ out)
     → RunsLine (unless_invalid fault v answered) v result out out'
-unfit_runs v fault e answered result out out' is prints kept =
-    rw is (printed_runs (one_line (refused_line (transfer_fault_name e)) v) v result out out' (on_ok_weaker result (λ _. refl) prints) prints kept)
+unfit_runs v fault e answered result out out' is prints kept = grind (arith, printed_runs, on_ok_weaker)
 
 -- a transfer that breaks none
 pub fit_runs : {A E : Type 0} (answered : Descriptor → Answered) (v w : View) (t u : Descriptor) (result : Result A E) (out out' : List ℕ) → u ≡ t
@@ -56,13 +51,7 @@ fit_runs answered v w t u result out out' is fit runs = rw (← is, fit) runs
 -- the entry of an answered read in the history
 kept_read : (v w : View) (addr : ℕ) (b bytes : List ℕ) (fault : Option EngineFault)
     → (Bytes b, w) ≡ unless fault v (Bytes bytes, with_entry v (ReadBack addr bytes)) → read_at w.history (length v.history) ≡ b
-kept_read v w addr b bytes (Some f) is = absurd (let bad : Bytes b ≡ Refused f = ap (λ (x : Reply × View). x.0) is in cc)
-kept_read v w addr b bytes None is =
-    let reported_bytes : Bytes b ≡ Bytes bytes = ap (λ (x : Reply × View). x.0) is in
-    let same : b ≡ bytes = cc in
-    let after : w ≡ with_entry v (ReadBack addr bytes) = ap (λ (x : Reply × View). x.1) is in
-    ap (λ (u : View). read_at u.history (length v.history)) after ∙ ap read_in (slice_get_push_last v.history (ReadBack addr bytes) (length v.history) refl)
-    ∙ sym same
+kept_read v w addr b bytes fault h = grind (arith, slice_get_push_last)
 
 -- a read, whose bytes are printed from the history
 pub read_runs : {A E : Type 0} (v w : View) (addr n : ℕ) (bytes : List ℕ) (result : Result A E) (out out' : List ℕ) → (Bytes bytes, w) ≡ answer v (Read addr n)
@@ -80,23 +69,13 @@ module _ {A E : Type 0} (start : List ℕ) (v : View) (t : Descriptor) (free : i
   pub refused_copy_runs : (w : View) (fault : EngineFault) (result : Result A E) (out out' : List ℕ) → CallAnswers v (SubmitCall 0 t) (Refused fault) w
       → OnOk result (fault ≢ NoMemory) → OnOk result (out' ≡ out ++ text_of (refused_line (fault_text fault) ∷ [])) → OnErr result (out' ≡ out)
       → RunsLine (copied start v t) w result out out'
-  refused_copy_runs w fault (Ok a) out out' is served prints kept =
-      rw free
-      (subst (λ (x : Reply × View). RunsLine {A = A} {E = E} (copied_after start x) w (Ok a) out out')
-      (answer_unless_no_memory v w (SubmitCall 0 t) (Refused fault) (refused_served fault served) is)
-      (printed_runs {A = A} {E = E} (one_line (refused_line (fault_text fault)) w) w (Ok a) out out' refl prints tt))
-  refused_copy_runs w fault (Err e) out out' is served prints kept = record { ok = tt; err = kept }
+  refused_copy_runs h h2 h3 h4 h5 = grind (arith, answer_unless_no_memory, refused_served, printed_runs)
 
   -- a copy was submitted, issued and stepped through
   pub copy_runs : (u x w : View) (cookie : ℕ) (issued last : Reply) (result : Result A E) (out out' : List ℕ) → (Cookie cookie, u) ≡ answer v (SubmitCall 0 t)
       → (issued, x) ≡ answer u (IssueCall 0) → (last, w) ≡ stepped_to_end most_copy_steps x
       → OnOk result (out' ≡ out ++ text_of ((start ++ reply_text last) ∷ [])) → OnErr result (out' ≡ out) → RunsLine (copied start v t) w result out out'
-  copy_runs u x w cookie issued last result out out' submitted is steps prints kept =
-      let through = steps ∙ ap (λ (a : Reply × View). stepped_to_end most_copy_steps a.1) is in
-      rw free
-      (subst (λ (a : Reply × View). RunsLine {A = A} {E = E} (copied_after start a) w result out out') submitted
-      (subst (λ (a : Reply × View). RunsLine {A = A} {E = E} (one_line (start ++ reply_text a.0) a.1) w result out out') through
-      (printed_runs (one_line (start ++ reply_text last) w) w result out out' (on_ok_weaker result (λ _. refl) prints) prints kept)))
+  copy_runs u x w cookie issued last result out out' submitted is steps prints kept = grind (arith, printed_runs, on_ok_weaker)
 
 -- ---- the lines of a script, one after another
 
@@ -132,8 +111,7 @@ pub answered_some : {S : Type 0} (seen : S → View) (is_refused : S → Stateme
     → StopsAtALine (AnswersSeen seen) is_refused found lines left old new → AppendsGroups (lines_answered (seen found) lines) old new
 answered_some seen is_refused found left lines old new stop =
     let v = seen found in
-    let first : take (length stop.before) (lines_answered v lines) ≡ lines_answered v stop.before =
-    ap (λ l. take (length stop.before) (lines_answered v l)) stop.split ∙ answered_first v stop.before (stop.line ∷ stop.behind) in
+    let first : take (length stop.before) (lines_answered v lines) ≡ lines_answered v stop.before = grind (arith, answered_first) in
     record {
       count = length stop.before;
       some_left = omega (arith, length_lines_answered v lines, ap length stop.split, length-append stop.before (stop.line ∷ stop.behind));
@@ -143,14 +121,12 @@ answered_some seen is_refused found left lines old new stop =
 -- an answer that is out of memory
 pub answers_some : {E : Type 0} (printed : Printed) (result : Result ℕ E) (old new : List ℕ) → IsErr result → AppendsGroups printed.groups old new
     → Answers printed result old new
-answers_some printed (Ok status) old new err first = absurd (let no : false ≡ true = err in cc)
-answers_some printed (Err e) old new err first = record { text = tt; status = tt; refused = first }
+answers_some printed result old new h h2 = grind (arith)
 
 -- an answer that is out of memory at once
 pub answers_none : {E : Type 0} (printed : Printed) (result : Result ℕ E) (old new : List ℕ) → IsErr result → 0 < length printed.groups → new ≡ old
     → Answers printed result old new
-answers_none printed result old new err some same =
-    answers_some printed result old new err (record { count = 0; some_left = some; whole = same ∙ sym (append-nil old) })
+answers_none printed result old new err some same = grind (arith, answers_some, append-nil)
 
 -- an answer after other groups
 pub answers_after : {E : Type 0} (front groups : List (List (List ℕ))) (status : ℕ) (result : Result ℕ E) (old mid new : List ℕ)

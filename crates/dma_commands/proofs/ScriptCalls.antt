@@ -1,19 +1,19 @@
 -- What a line prints is computed from the replies to its calls.
-use Rattle.std.proofs.Common.{◌≡◌, ℕ, zero, suc, Bool, true, false, if◌then◌else◌, List, [], ◌∷◌, ◌++◌, length, take, drop, codes, Option, Some, None, refl, ap}
+use Rattle.std.proofs.Common.{arith}
+use Rattle.std.proofs.Common.{◌≡◌, ℕ, zero, suc, Bool, true, false, if◌then◌else◌, List, [], ◌∷◌, ◌++◌, length, take, drop, codes, Option, refl, ap}
 use Rattle.std.proofs.Common.{sym, ◌∙◌}
 use Rattle.std.specs.Prelude.{replicate}
 use Rattle.std.proofs.Math.Seq.{take-append_seam, drop-append_seam}
-use Rattle.dma_mem.specs.{Places.Descriptor, Refusals.refusal_of, declared.transfer.TransferFault.TransferFault, declared.call.Call.Call}
+use Rattle.dma_mem.specs.{Places.Descriptor, declared.transfer.TransferFault.TransferFault, declared.call.Call.Call}
 use Rattle.dma_engine.specs.{declared.call.Reply.Reply, Advance.after_steps, View.View, Answer.answer, Answer.answers}
 use Rattle.dma_script.specs.declared.statements.Statement.{Statement}
-use Rattle.dma_commands.specs.Run.{Answered, call_answer, issued_and_stepped, copied, copied_after, is_in_use, is_refused, line_answer, lines_answered}
-use Rattle.dma_commands.specs.Run.{most_copy_steps, start_of, steps_before_last, one_line, unless_invalid}
+use Rattle.dma_commands.specs.Run.{Answered, call_answer, issued_and_stepped, copied, copied_after, line_answer, lines_answered}
+use Rattle.dma_commands.specs.Run.{most_copy_steps, steps_before_last, one_line, unless_invalid}
 use Rattle.dma_commands.specs.Laws.{call_lines, calls_after, calls_in, calls_of, issue_and_step_calls, groups_from, if_valid, last_of, lines_from, rule_or}
 use Rattle.dma_commands.specs.Laws.{transfer_calls, transfer_lines, view_after}
-use Rattle.dma_commands.specs.{Printed.refused_line, Printed.reply_text, Transfers.transfer_of}
+use Rattle.dma_commands.specs.{Printed.refused_line, Printed.reply_text}
 use Rattle.dma_engine.proofs.JoinedCalls.{answers_append_law}
 use Rattle.dma_mem.specs.declared.call.Call.TheVariants as calls
-use Rattle.dma_script.specs.declared.statements.Statement.TheVariants as statements
 
 -- ---- a copy's steps
 
@@ -50,9 +50,7 @@ after_is start s false = carried_is start s.1 s.0
 copied_is : (start : List ℕ) (v : View) (t : Descriptor) (b : Bool)
     → (if b then one_line (refused_line (codes "ChannelInUse")) v else copied_after start (answer v (calls.Submit 0 t))) ≡ through_made start
     (answers v (if b then [] else calls.Submit 0 t ∷ calls_after (answer v (calls.Submit 0 t))))
-copied_is start v t true = refl
-copied_is start v t false =
-    let s = answer v (calls.Submit 0 t) in after_is start s (is_refused s.0)
+copied_is start v t b = grind (arith, after_is)
 
 -- what is made of the replies to the calls of a transfer's line, which breaks this rule or none
 abbrev rule_made : Option TransferFault → (List Reply → List (List ℕ)) → List Reply × View → Answered
@@ -60,14 +58,12 @@ rule_made fault lines a = (rule_or fault (lines a.0), a.1)
 
 through_is : (start : List ℕ) (v : View) (t : Descriptor) (fault : Option TransferFault)
     → unless_invalid fault v (copied start v t) ≡ rule_made fault (transfer_lines start) (answers v (if_valid fault (transfer_calls v t)))
-through_is start v t None = copied_is start v t (is_in_use v)
-through_is start v t (Some fault) = refl
+through_is start v t fault = grind (arith, copied_is)
 
 submit_is : (v : View) (ch : ℕ) (t : Descriptor) (fault : Option TransferFault)
     → unless_invalid fault v (call_answer v (calls.Submit ch t)) ≡ rule_made fault (call_lines (calls.Submit ch t ∷ []))
     (answers v (if_valid fault (calls.Submit ch t ∷ [])))
-submit_is v ch t None = refl
-submit_is v ch t (Some fault) = refl
+submit_is v ch t fault = grind (arith)
 
 -- ---- a line
 
@@ -76,13 +72,7 @@ abbrev pub line_made : View → Statement → List Reply × View → Answered
 line_made v line a = (lines_from v line a.0, a.1)
 
 pub line_is : (v : View) (line : Statement) → line_answer v line ≡ line_made v line (answers v (calls_of v line))
-line_is v (statements.Call call) = refl
-line_is v (statements.Submit ch line) =
-    let t = transfer_of line in submit_is v ch t (refusal_of t)
-line_is v (statements.Copy line) =
-    let t = transfer_of line in through_is (start_of line.src) v t (refusal_of t)
-line_is v (statements.Step ch count) = refl
-line_is v statements.Totals = refl
+line_is v line = grind (arith, submit_is, through_is)
 
 -- ---- the lines of a script
 
@@ -93,21 +83,11 @@ length_answers v (call ∷ cs) = ap suc (length_answers (answer v call).1 cs)
 -- the replies to a line's own calls, and those to the calls of the lines behind it
 pub first_replies : (v : View) (line : Statement) (rest : List Statement)
     → take (length (calls_of v line)) (answers v (calls_in v (line ∷ rest))).0 ≡ (answers v (calls_of v line)).0
-first_replies v line rest =
-    let own = calls_of v line in
-    let a = answers v own in
-    let b = answers a.1 (calls_in a.1 rest) in
-    ap (λ (x : List Reply × View). take (length own) x.0) (answers_append_law v own (calls_in a.1 rest))
-    ∙ ap (λ (k : ℕ). take k (a.0 ++ b.0)) (sym (length_answers v own)) ∙ take-append_seam a.0 b.0
+first_replies v line rest = grind (arith, answers_append_law, length_answers, take-append_seam)
 
 pub later_replies : (v : View) (line : Statement) (rest : List Statement)
     → drop (length (calls_of v line)) (answers v (calls_in v (line ∷ rest))).0 ≡ (answers (view_after v line) (calls_in (view_after v line) rest)).0
-later_replies v line rest =
-    let own = calls_of v line in
-    let a = answers v own in
-    let b = answers a.1 (calls_in a.1 rest) in
-    ap (λ (x : List Reply × View). drop (length own) x.0) (answers_append_law v own (calls_in a.1 rest))
-    ∙ ap (λ (k : ℕ). drop k (a.0 ++ b.0)) (sym (length_answers v own)) ∙ drop-append_seam a.0 b.0
+later_replies v line rest = grind (arith, answers_append_law, length_answers, drop-append_seam)
 
 pub groups_are : (v : View) (lines : List Statement) → lines_answered v lines ≡ groups_from v lines (answers v (calls_in v lines)).0
 groups_are v [] = refl

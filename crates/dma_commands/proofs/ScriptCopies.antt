@@ -1,9 +1,9 @@
 -- No copy or fill of a script is cut off.
-use Rattle.std.proofs.Common.{◌≡◌, ℕ, ◌+◌, ◌<◌, zero, suc, true, false, List, [], ◌∷◌, Option, Some, None, refl, ap, sym, subst, arith}
+use Rattle.std.proofs.Common.{◌≡◌, ℕ, ◌+◌, ◌<◌, zero, suc, true, false, List, [], ◌∷◌, Option, Some, None, ap, sym, subst, arith}
 use Rattle.std.specs.{Prelude.replicate, List.All}
 use Rattle.std.proofs.{lemmas.Bool.cond_both, lemmas.List.Elements.All-head, lemmas.List.Elements.All-tail}
 use Rattle.dma_mem.specs.Rules.{HasOneByte, IsTransfer}
-use Rattle.dma_mem.specs.{Places.Descriptor, Refusals.refusal_of, declared.transfer.TransferFault.TransferFault, declared.call.Call.Call}
+use Rattle.dma_mem.specs.{Places.Descriptor, Refusals.refusal_of, declared.transfer.TransferFault.TransferFault}
 use Rattle.dma_mem.proofs.TransferRules.{IsTransfer_from_no_refusal}
 use Rattle.dma_engine.specs.{declared.call.Reply.Reply, declared.call.Reply.TheVariants.Cookie, declared.fault.EngineFault.EngineFault, Object.channel}
 use Rattle.dma_engine.specs.{Object.used, Turn.with_entry, declared.entry.Entry.TheVariants.Submitted, View.IsSound, View.View, View.object_of}
@@ -13,17 +13,15 @@ use Rattle.dma_script.specs.declared.statements.Statement.{Statement}
 use Rattle.dma_script.proofs.Within.{IsNoSubmit}
 use Rattle.dma_commands.specs.Laws.{AreWhole, CopiesAreWhole, IsWhole, IsWholeCopy, StepsEnd, calls_after, calls_in, calls_of, if_valid, opening_of}
 use Rattle.dma_commands.specs.Laws.{script_calls, transfer_calls, view_after}
-use Rattle.dma_commands.specs.{Run.CopiesEnd, Run.is_in_use, Run.most_copy_steps, Run.steps_before_last, Transfers.transfer_of}
+use Rattle.dma_commands.specs.{Run.CopiesEnd, Run.is_in_use, Run.most_copy_steps, Run.steps_before_last}
 use Rattle.dma_commands.proofs.{CopyLemmas.before_last_on, ScriptCalls.first_replies, ScriptCalls.later_replies, ScriptSubmits.line_byte}
 use Rattle.dma_commands.proofs.{ScriptsSound.line_sound, ScriptsSound.opening_sound, ScriptsWithin.script_within}
 use Rattle.dma_mem.specs.declared.call.Call.TheVariants as calls
-use Rattle.dma_script.specs.declared.statements.Statement.TheVariants as statements
 
 -- ---- steps
 
 one_step_more : (reply : Reply) (rest : List Reply) → goes_on reply ≡ true → StepsEnd rest → StepsEnd (reply ∷ rest)
-one_step_more reply [] on ends = absurd ends
-one_step_more reply (next ∷ rest) on ends = (on, ends)
+one_step_more reply rest h h2 = grind (arith)
 
 steps_end_law : (n : ℕ) (v : View) → ((k : ℕ) → k < n → goes_on (answer (after_steps v 0 k) (calls.Step 0)).0 ≡ true)
     → goes_on (answer (after_steps v 0 n) (calls.Step 0)).0 ≡ false → StepsEnd (answers v (replicate (suc n) (calls.Step 0))).0
@@ -49,22 +47,16 @@ submitted_whole ends v t None sound rules free is =
     steps_end_law (steps_before_last most_copy_steps u) u (before_last_on most_copy_steps u) (ends v t cookie w sound rules free took)
 
 through_whole : CopiesEnd → (v : View) (t : Descriptor) → IsSound v → IsTransfer t → IsWholeCopy (answers v (transfer_calls v t)).0
-through_whole ends v t sound rules =
-    cond_both {A = List Call} (is_in_use v) [] (calls.Submit 0 t ∷ calls_after (answer v (calls.Submit 0 t))) (λ cs. IsWholeCopy (answers v cs).0) (λ _. tt)
-    (λ free. submitted_whole ends v t (submit_fault v 0 t) sound rules free refl)
+through_whole ends v t sound rules = grind (arith, cond_both, submitted_whole)
 
 fit_whole : CopiesEnd → (v : View) (t : Descriptor) (fault : Option TransferFault) → IsSound v → HasOneByte t → refusal_of t ≡ fault
     → IsWholeCopy (answers v (if_valid fault (transfer_calls v t))).0
-fit_whole ends v t None sound one fits = through_whole ends v t sound (IsTransfer_from_no_refusal t one fits)
-fit_whole ends v t (Some fault) sound one is = tt
+fit_whole h v t fault h2 h3 h4 = grind (arith, through_whole, IsTransfer_from_no_refusal)
 
 -- ---- the lines of a script
 
 line_whole : CopiesEnd → (v : View) (line : Statement) → IsSound v → IsWhole line (answers v (calls_of v line)).0
-line_whole ends v (statements.Copy line) sound =
-    let t = transfer_of line in
-    fit_whole ends v t (refusal_of t) sound (line_byte line) refl
-line_whole ends v _ sound = tt
+line_whole h v line h2 = grind (arith, fit_whole, line_byte)
 
 lines_whole_law : CopiesEnd → (v : View) (lines : List Statement) → All IsNoSubmit lines → IsSound v → AreWhole v lines (answers v (calls_in v lines)).0
 lines_whole_law ends v [] read sound = tt

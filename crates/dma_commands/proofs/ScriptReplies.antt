@@ -1,14 +1,14 @@
 -- Scripts make calls of the engine and print its replies.
-use Rattle.std.proofs.Common.{◌≡◌, ◌≢◌, ℕ, zero, suc, false, List, [], ◌∷◌, length, Option, Some, None, refl, ap, sym, subst, ◌∙◌, arith}
+use Rattle.std.proofs.Common.{◌≡◌, ◌≢◌, ℕ, zero, suc, false, List, [], ◌∷◌, Option, ap, sym, subst, arith}
 use Rattle.std.specs.Prelude.{is_none, Ok}
-use Rattle.std.proofs.lemmas.Bool.{false≢true, le-ltb}
-use Rattle.dma_mem.specs.{declared.call.Call.Call, declared.call.Call.TheVariants.Checkpoint}
+use Rattle.std.proofs.lemmas.Bool.{le-ltb}
+use Rattle.dma_mem.specs.{declared.call.Call.Call}
 use Rattle.dma_engine.specs.declared.call.Reply.TheVariants.{Done, Refused}
-use Rattle.dma_engine.specs.Answer.{AreAnswers, CallAnswers, answer, answers, checkpoint_fault, checkpointed, stores_base, takes_memory, unless}
-use Rattle.dma_engine.specs.{declared.call.Reply.Reply, declared.fault.EngineFault.EngineFault, declared.fault.EngineFault.TheVariants.NoMemory, View.View}
+use Rattle.dma_engine.specs.Answer.{AreAnswers, answer, answers, checkpointed, stores_base, unless}
+use Rattle.dma_engine.specs.{declared.fault.EngineFault.EngineFault, declared.fault.EngineFault.TheVariants.NoMemory, View.View}
 use Rattle.dma_engine.proofs.JoinedCalls.{answer_is_one, answers_are_answers, answers_unless_no_memory}
 use Rattle.dma_script.specs.{Statements.run_script_of, declared.statements.RunScript.RunScript}
-use Rattle.dma_commands.specs.Run.{Answered, printed, printed_of}
+use Rattle.dma_commands.specs.Run.{Answered, printed}
 use Rattle.dma_commands.specs.Laws.{HaveMemory, LinesPrintAnswers, ScriptsPrintAnswers, ScriptsPrintReplies, calls_of, opening_of, printed_from, script_calls}
 use Rattle.dma_commands.proofs.{ScriptCalls.groups_are, ScriptCalls.line_is, ScriptSubmits.calls_made_law, ScriptsWithin.can_be_made}
 use Rattle.dma_commands.proofs.{ScriptsWithin.script_within}
@@ -17,21 +17,13 @@ use Rattle.dma_commands.proofs.{ScriptsWithin.script_within}
 
 -- a checkpoint that is out of memory stores no base
 no_base_by : (v : View) (fault : Option EngineFault) → (unless fault v (Done, checkpointed v)).0 ≡ Refused NoMemory → is_none fault ≡ false
-no_base_by v None is = absurd cc
-no_base_by v (Some fault) is = refl
+no_base_by v fault h = grind (arith)
 
 no_base : (v : View) (call : Call) → (answer v call).0 ≡ Refused NoMemory → stores_base v call ≡ false
-no_base v Checkpoint is = no_base_by v (checkpoint_fault v) is
-no_base v call is = refl
+no_base v call h = grind (arith, no_base_by)
 
 answer_served : (v : View) (call : Call) → (answer v call).0 ≢ Refused NoMemory
-answer_served v call is =
-    let w = (answer v call).1 in
-    let starved : CallAnswers v call (Refused NoMemory) w = subst (λ (r : Reply). CallAnswers v call r w) is (answer_is_one v call) in
-    let same : w ≡ v = starved.1 in
-    let none : takes_memory v call ≡ false =
-    rw (no_base v call is, is, same) (le-ltb (length v.history) (length v.history) (omega arith)) in
-    false≢true (sym none ∙ starved.0)
+answer_served v call is = grind (arith, answer_is_one, no_base, le-ltb)
 
 -- and so of calls in order
 have_memory : (v : View) (cs : List Call) → HaveMemory (answers v cs).0
@@ -55,9 +47,7 @@ lines_print_answers v line =
 -- what is printed, by the answers with enough memory
 printed_is : (input : List ℕ) (script : RunScript) → run_script_of input ≡ Ok script
     → printed input ≡ printed_from script (answers (opening_of script) (script_calls script)).0
-printed_is input script read =
-    ap printed_of read
-    ∙ ap (λ (g : List (List (List ℕ))). record { groups = [] ∷ g; status = 0 }) (groups_are (opening_of script) script.statements)
+printed_is input script read = grind (arith, groups_are)
 
 pub scripts_print_answers : ScriptsPrintAnswers
 scripts_print_answers input script read =
@@ -71,8 +61,4 @@ scripts_print_answers input script read =
     )
 
 pub scripts_print_replies : ScriptsPrintReplies
-scripts_print_replies input script replies left read served made =
-    let v = opening_of script in
-    let cs = script_calls script in
-    printed_is input script read
-    ∙ ap (λ (x : List Reply × View). printed_from script x.0) (sym (answers_unless_no_memory v left cs replies served made))
+scripts_print_replies input script replies left read served made = grind (arith, printed_is, answers_unless_no_memory)

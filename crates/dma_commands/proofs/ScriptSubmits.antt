@@ -1,5 +1,6 @@
 -- The transfers that a script submits meet their rules.
-use Rattle.std.proofs.Common.{◌≡◌, ℕ, suc, List, [], ◌∷◌, Option, Some, None, refl}
+use Rattle.std.proofs.Common.{arith}
+use Rattle.std.proofs.Common.{◌≡◌, ℕ, suc, List, [], ◌∷◌, Option, refl}
 use Rattle.std.specs.{Prelude.replicate, List.All}
 use Rattle.std.proofs.lemmas.Bool.{cond_both}
 use Rattle.std.proofs.lemmas.List.Elements.{All-append, All-cons, All-head, All-nil, All-replicate, All-tail}
@@ -35,8 +36,7 @@ line_byte line = from_byte line.src line.dst line.wait line.signal
 -- the calls of a transfer that is made where it breaks no rule
 fit_made : (t : Descriptor) (fault : Option TransferFault) (cs : List Call) → HasOneByte t → refusal_of t ≡ fault → (IsTransfer t → All IsCall cs)
     → All IsCall (if_valid fault cs)
-fit_made t None cs one none made = made (IsTransfer_from_no_refusal t one none)
-fit_made t (Some fault) cs one some made = none_made_law
+fit_made t fault cs h h2 h3 = grind (arith, IsTransfer_from_no_refusal, none_made_law)
 
 through_made_law : (v : View) (t : Descriptor) → IsTransfer t → All IsCall (transfer_calls v t)
 through_made_law v t rules =
@@ -50,8 +50,7 @@ through_made_law v t rules =
 
 -- the call of a line that is read
 plain_made : (call : Call) → IsNoSubmit (statements.Call call) → IsCall call
-plain_made (calls.Submit ch t) read = absurd read
-plain_made _ read = tt
+plain_made call h = grind (arith)
 
 pub line_made_law : (v : View) (line : Statement) → IsNoSubmit line → All IsCall (calls_of v line)
 line_made_law v (statements.Call call) read = alone call (plain_made call read)

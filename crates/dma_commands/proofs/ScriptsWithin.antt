@@ -1,9 +1,8 @@
 -- The engine of a parsed script's memory line can be made.
-use Rattle.std.proofs.Common.{◌≡◌, ℕ, Bool, true, false, ◌&&◌, ◌||◌, if◌then◌else◌, not, nat_lt, nat_le, ◌==◌, List, Some, None, Result, Ok, refl, ap, subst}
-use Rattle.std.proofs.Common.{◌∙◌, arith}
+use Rattle.std.proofs.Common.{◌≡◌, ℕ, Bool, true, false, ◌||◌, if◌then◌else◌, not, nat_lt, nat_le, List, Some, None, Result, Ok, refl, subst}
+use Rattle.std.proofs.Common.{arith}
 use Rattle.std.specs.Prelude.{IfOk}
 use Rattle.std.proofs.lemmas.Bool.{le-leb, le-ltb, ne_eqb}
-use Rattle.dma_mem.specs.Image.{is_size}
 use Rattle.dma_engine.specs.{declared.fault.NewFault.NewFault, View.new_fault}
 use Rattle.dma_script.specs.{Statements.IsWithin, Statements.run_script_of, declared.fault.Fault.Fault, declared.statements.RunScript.RunScript}
 use Rattle.dma_script.proofs.Within.{IsBefore, IsNoSubmit, run_script_within}
@@ -17,10 +16,4 @@ no_fault : (a b c : Bool) (x y : NewFault) → a ≡ false → b ≡ false → c
 no_fault a b c x y none few sized = rw (none, few, sized) refl
 
 pub can_be_made : (script : RunScript) → IsWithin script → new_fault script.size script.channels ≡ None
-can_be_made script within =
-    let none : (script.channels == 0) ≡ false = ne_eqb _ _ (λ e. omega (arith, e, within.2)) in
-    let few : nat_lt 8 script.channels ≡ false = le-ltb _ _ within.3 in
-    let least : nat_le 1 script.size ≡ true = le-leb _ _ within.0 in
-    let most : nat_le script.size 4294963200 ≡ true = le-leb _ _ within.1 in
-    let sized : is_size script.size ≡ true = ap (λ b. b && nat_le script.size 4294963200) least ∙ most in
-    no_fault _ _ _ _ _ none few sized
+can_be_made script within = grind (arith, ne_eqb, nat_lt, le-ltb, nat_le, le-leb, no_fault)

@@ -1,5 +1,5 @@
 -- Runs of equal answers, and the lines of the runs before the last.
-use Rattle.std.proofs.Common.{◌≡◌, ℕ, ◌+◌, ◌<◌, List, [], ◌∷◌, ◌++◌, map, Bool, true, false, refl, ap, sym, ◌∙◌, zero, suc, add-one, append_assoc, arith}
+use Rattle.std.proofs.Common.{◌≡◌, ℕ, ◌+◌, ◌<◌, List, [], ◌∷◌, ◌++◌, map, Bool, true, false, refl, ap, sym, ◌∙◌, zero, suc, append_assoc, arith}
 use Rattle.std.specs.{Prelude.replicate, Str.bytes_eq}
 use Rattle.std.proofs.lemmas.List.{append-nil, map-append, replicate-append-replicate}
 use Rattle.std.proofs.{Math.Nat.zero-lt-suc, lemmas.Slice.Eq.bytes_eq-Decides}
@@ -28,20 +28,13 @@ bytes_eq_refl x = (bytes_eq-Decides x x).1 refl
 
 -- equal texts, and then another
 runs_more : (n : ℕ) (t x : List ℕ) (rest : List (List ℕ)) → bytes_eq t x ≡ false → runs_of (replicate (suc n) t ++ x ∷ rest) ≡ (t, suc n) ∷ runs_of (x ∷ rest)
-runs_more zero t x rest other =
-    let head = joined_head x (runs_of rest) in
-    let one : joined t ((x, head.0) ∷ head.1) ≡ (t, 1) ∷ (x, head.0) ∷ head.1 = rw other refl in
-    ap (joined t) head.2 ∙ one ∙ ap (λ r. (t, 1) ∷ r) (sym head.2)
-runs_more (suc n) t x rest other =
-    let one : joined t ((t, suc n) ∷ runs_of (x ∷ rest)) ≡ (t, suc n + 1) ∷ runs_of (x ∷ rest) = rw (bytes_eq_refl t) refl in
-    ap (joined t) (runs_more n t x rest other) ∙ one ∙ ap (λ k. (t, k) ∷ runs_of (x ∷ rest)) (add-one (suc n))
+runs_more zero t x rest other = grind (arith, joined_head)
+runs_more (suc n) t x rest other = grind (arith, bytes_eq_refl, runs_more n t x rest other)
 
 -- equal texts alone
 runs_alone : (n : ℕ) (t : List ℕ) → runs_of (replicate (suc n) t ++ []) ≡ (t, suc n) ∷ []
 runs_alone zero t = refl
-runs_alone (suc n) t =
-    let one : joined t ((t, suc n) ∷ []) ≡ (t, suc n + 1) ∷ [] = rw (bytes_eq_refl t) refl in
-    ap (joined t) (runs_alone n t) ∙ one ∙ ap (λ k. (t, k) ∷ []) (add-one (suc n))
+runs_alone (suc n) t = grind (arith, bytes_eq_refl, runs_alone n t)
 
 replicate_shift : {X : Type 0} (n m : ℕ) (x : X) (rest : List X) → replicate (n + m) x ++ rest ≡ replicate n x ++ (replicate m x ++ rest)
 replicate_shift n m x rest = ap (λ l. l ++ rest) (sym (replicate-append-replicate n m x)) ∙ append_assoc (replicate n x) (replicate m x) rest
@@ -50,9 +43,7 @@ replicate_shift n m x rest = ap (λ l. l ++ rest) (sym (replicate-append-replica
 
 pub take_equal : (ch : ℕ) (lines last : List ℕ) (count many : ℕ) (text : List ℕ) (rest : List (List ℕ)) → bytes_eq last text ≡ true
     → text_with ch lines last (count + many) rest ≡ text_with ch lines last count (replicate many text ++ rest)
-take_equal ch lines last count many text rest same =
-    ap (λ l. lines ++ text_of (step_lines ch l))
-    (replicate_shift count many last rest ∙ ap (λ t. replicate count last ++ (replicate many t ++ rest)) ((bytes_eq-Decides last text).0 same))
+take_equal ch lines last count many text rest same = grind (arith, replicate_shift, bytes_eq-Decides)
 
 line_then : (line : List ℕ) (lines : List (List ℕ)) → text_of (line ∷ lines) ≡ text_of (line ∷ []) ++ text_of lines
 line_then line lines = ap (λ l. l ++ text_of lines) (sym (append-nil (line ++ 10 ∷ [])))
@@ -60,27 +51,17 @@ line_then line lines = ap (λ l. l ++ text_of lines) (sym (append-nil (line ++ 1
 one_other_law : (ch : ℕ) (lines lines' last : List ℕ) (count : ℕ) (text : List ℕ) (rest : List (List ℕ)) → bytes_eq last text ≡ false
     → (count ≡ 0 → lines' ≡ lines) → (0 < count → lines' ≡ lines ++ text_of (step_line ch (last, count) ∷ []))
     → text_with ch lines' text 1 rest ≡ text_with ch lines last count (text ∷ rest)
-one_other_law ch lines lines' last zero text rest other none line =
-    ap (λ l. l ++ text_of (step_lines ch (text ∷ rest))) (none refl)
-one_other_law ch lines lines' last (suc n) text rest other none line =
-    ap (λ l. l ++ text_of (step_lines ch (text ∷ rest))) (line (zero-lt-suc n))
-    ∙ append_assoc lines (text_of (step_line ch (last, suc n) ∷ [])) (text_of (step_lines ch (text ∷ rest)))
-    ∙ ap (λ l. lines ++ l) (sym (line_then (step_line ch (last, suc n)) (step_lines ch (text ∷ rest))))
-    ∙ ap (λ r. lines ++ text_of (map (step_line ch) r)) (sym (runs_more n last text rest other))
+one_other_law h h2 h3 h4 = grind (arith, zero-lt-suc, append_assoc, line_then, runs_more)
 
 pub take_other : (ch : ℕ) (lines lines' last : List ℕ) (count many : ℕ) (text : List ℕ) (rest : List (List ℕ)) → bytes_eq last text ≡ false → 0 < many
     → (count ≡ 0 → lines' ≡ lines) → (0 < count → lines' ≡ lines ++ text_of (step_line ch (last, count) ∷ []))
     → text_with ch lines' text many rest ≡ text_with ch lines last count (replicate many text ++ rest)
-take_other ch lines lines' last count zero text rest other some none line = absurd (omega (arith, some))
-take_other ch lines lines' last count (suc n) text rest other some none line =
-    one_other_law ch lines lines' last count text (replicate n text ++ rest) other none line
+take_other h h2 h3 h4 h5 = grind (arith, one_other_law)
 
 -- the lines with the last one ended
 pub ended : (ch : ℕ) (lines lines' last : List ℕ) (count : ℕ) → (count ≡ 0 → lines' ≡ lines)
     → (0 < count → lines' ≡ lines ++ text_of (step_line ch (last, count) ∷ [])) → lines' ≡ text_with ch lines last count []
-ended ch lines lines' last zero none line = none refl ∙ sym (append-nil lines)
-ended ch lines lines' last (suc n) none line =
-    line (zero-lt-suc n) ∙ ap (λ r. lines ++ text_of (map (step_line ch) r)) (sym (runs_alone n last))
+ended h h2 h3 = grind (arith, append-nil, zero-lt-suc, runs_alone)
 
 -- ---- steps in rows
 
@@ -116,13 +97,10 @@ more_texts v w step calls m n k rest sum is same =
 -- three runs
 three_lines : (ch : ℕ) (a b c : List ℕ) (n : ℕ) → bytes_eq a b ≡ false → bytes_eq b c ≡ false → 0 < n
     → text_of (step_lines ch (a ∷ (replicate n b ++ c ∷ []))) ≡ text_of (step_line ch (a, 1) ∷ step_line ch (b, n) ∷ step_line ch (c, 1) ∷ [])
-three_lines ch a b c zero ab bc some = absurd (omega (arith, some))
-three_lines ch a b c (suc n) ab bc some =
-    ap (λ r. text_of (map (step_line ch) r)) (runs_more zero a b (replicate n b ++ c ∷ []) ab ∙ ap (λ r. (a, 1) ∷ r) (runs_more n b c [] bc))
+three_lines ch a b c n h h2 h3 = grind (arith, runs_more)
 
 -- the lines of the answers
 pub transfer_lines : (ch cookie moved finished : ℕ) → 0 < moved
     → text_of (step_lines ch (turn_text (Started cookie) ∷ (replicate moved (turn_text Moved) ++ turn_text (Finished finished NoError 0) ∷ []))) ≡ transfer_text
     ch cookie moved finished
-transfer_lines ch cookie moved finished some =
-    three_lines ch (turn_text (Started cookie)) (turn_text Moved) (turn_text (Finished finished NoError 0)) moved refl refl some
+transfer_lines ch cookie moved finished some = grind (arith, three_lines)

@@ -1,19 +1,18 @@
 -- Waits lead from each channel with an unfinished cookie to a cause, if no channel's step changes anything.
 use Rattle.std.proofs.Common.{◌≡◌, ℕ, ◌+◌, ◌<◌, ◌≤◌, zero, suc, List, [], ◌∷◌, ◌++◌, Option, Some, None, Bool, false, refl, ap, sym, subst, arith, inl, inr}
 use Rattle.std.proofs.Common.{◌⊎◌}
-use Rattle.std.specs.Prelude.{◌==◌, if◌then◌else◌, is_some, length, nat_le, not, IsSome, Result, Ok, Err}
+use Rattle.std.specs.Prelude.{◌==◌, if◌then◌else◌, is_some, length, nat_le, not, IsSome, Result, Ok}
 use Rattle.std.specs.List.{All, Contains, list_all}
 use Rattle.std.proofs.lemmas.Bool.{cases_Bool, cases_lt, cases_order, cond_both, eqb-false, lt-leb, not-true}
 use Rattle.std.proofs.lemmas.List.Elements.{All-append, All-cons, All-nil, All-weaker}
 use Rattle.std.proofs.{lemmas.List.get_or_past, lemmas.Option.slice_get_within}
 use Rattle.dma_insn.specs.declared.chip.ChipInsn.{ChipInsn}
 use Rattle.dma_mem.specs.{Places.Descriptor, Places.is_free_of}
-use Rattle.dma_chan.specs.Traffic.{member}
 use Rattle.dma_engine.specs.declared.turn.Turn.TheVariants.{Halted, Paused}
 use Rattle.dma_engine.specs.Object.{channel, empty_channel, front, issued_front, unfinished}
-use Rattle.dma_engine.specs.Turn.{Stepped, first_conflicting, front_turn, insn_turn, last_step, start_turn, turn}
+use Rattle.dma_engine.specs.Turn.{Stepped, first_conflicting, front_turn, insn_turn, start_turn, turn}
 use Rattle.dma_engine.specs.View.{RunningTransfer, View, channels, object_of, running, schedule_at}
-use Rattle.dma_engine.specs.{declared.fault.EngineFault.EngineFault, declared.fault.EngineFault.TheVariants.StepsSpent, declared.turn.Turn.Turn, Room.IsIdle}
+use Rattle.dma_engine.specs.{declared.fault.EngineFault.EngineFault, declared.turn.Turn.Turn, Room.IsIdle}
 use Rattle.dma_engine.proofs.Queues.{front_issued}
 use Rattle.dma_why.specs.Laws.{AreNotOnOneChannel, CausesAreNamed, IsCause}
 use Rattle.dma_why.specs.Waits.{event_wait, holder, holders, holders_of, signallers, waits_by, waits_of}
@@ -61,11 +60,7 @@ start_why v ch t (Some r) is found h =
 
 front_why : (v : View) (ch : ℕ) (x : Option Descriptor) (taken : Option ℕ) → issued_front (channel (object_of v) ch) ≡ x
     → 0 < unfinished (channel (object_of v) ch) → IsIdle (front_turn v ch x taken).0 → Why v ch (front_turn v ch x taken).0
-front_why v ch None taken is works h = inl works
-front_why v ch (Some t) None is works h = start_why v ch t (first_conflicting v t) (front_issued (channel (object_of v) ch) t is) refl h
-front_why v ch (Some t) (Some n) is works h =
-    cond_both {A = Stepped} (v.steps == last_step) (Err StepsSpent, v) (insn_turn v ch t n (member t n)) (λ x. IsIdle x.0 → Why v ch x.0)
-    (λ _ _. inl tt) (λ _ i. insn_why v ch n t (member t n) i) h
+front_why v ch x taken h h2 h3 = grind (arith, start_why, front_issued, cond_both, insn_why)
 
 -- a channel with an unfinished cookie exists
 works_there : (v : View) (ch : ℕ) → 0 < unfinished (channel (object_of v) ch) → ch < channels v

@@ -44,10 +44,8 @@ module _ (waits : List Wait) where
 
   over_joined : (low high from mid to : ℕ) (w : Wait) (more : List Wait) (x : Wait) (rest : List Wait) → Over low high from mid w more
       → low ≤ mid → mid < high → Over low high mid to x rest → Over low high from to w (more ++ x ∷ rest)
-  over_joined low high from mid to w [] x rest o l h p =
-      (o.0, o.1, omega (arith, o.2, l), omega (arith, o.2, h), subst (λ c. Over low high c to x rest) (sym o.2) p)
-  over_joined low high from mid to w (y ∷ more) x rest o l h p =
-      (o.0, o.1, o.2, o.3, over_joined low high w.by.ch mid to y more x rest o.4 l h p)
+  over_joined low high from mid to w [] x rest o l h p = grind arith
+  over_joined low high from mid to w (y ∷ more) x rest o l h p = grind (arith, over_joined low high w.by.ch mid to y more x rest o.4 l h p)
 
   over_ch : (low high from to : ℕ) (w : Wait) (more : List Wait) → Over low high from to w more → w.ch ≡ from
   over_ch low high from to w [] o = o.1
@@ -139,8 +137,7 @@ module _ (waits : List Wait) where
     pub once : AreOnce rest
 
   wider : (low high from to : ℕ) (path : List Wait) → IsOver (low + 1) high from to path → IsOver low high from to path
-  wider low high from to path f =
-      record { first = f.first; rest = f.rest; is = f.is; over = over_wider low high from to f.first f.rest f.over; once = f.once }
+  wider low high from to path f = grind (arith, over_wider)
 
   -- No way leads from the one to the other over channels above `low`.
   abbrev NoneOver : ℕ → ℕ → ℕ → ℕ → Type 0
@@ -157,8 +154,7 @@ module _ (waits : List Wait) where
             omega (arith, same, here, t.above)
         | inr later ↦
             let u = through (low + 1) high low to z rest p y later in
-            let on : Over (low + 1) high x.ch to u.from_mid.0 u.from_mid.1 =
-            subst (λ c. Over (low + 1) high c to u.from_mid.0 u.from_mid.1) (sym same) u.from_mid.2 in
+            let on : Over (low + 1) high x.ch to u.from_mid.0 u.from_mid.1 = grind (arith) in
             none w (t.to_mid.0 ++ u.from_mid.0 ∷ u.from_mid.1)
             (over_joined (low + 1) high from x.ch to w t.to_mid.0 u.from_mid.0 u.from_mid.1 t.to_mid.1 t.above t.below on)
       ]
@@ -188,25 +184,14 @@ module _ (waits : List Wait) where
 
   found_joined : (low high from to : ℕ) (a b : Option (List Wait)) → low < high → NoneOver low high from to
       → Found (low + 1) high from low a → Found (low + 1) high low to b → Found low high from to (joined a b)
-  found_joined low high from to None b h none f g path e = absurd cc
-  found_joined low high from to (Some p) None h none f g path e = absurd cc
-  found_joined low high from to (Some p) (Some q) h none f g path e =
-      let same : p ++ q ≡ path = cc in
-      subst (IsOver low high from to) same (both_over low high from to p q h none (f p refl) (g q refl))
+  found_joined low high from to a b h h2 h3 h4 = grind (arith, both_over)
 
   found_or : (low high from to : ℕ) (a b : Option (List Wait)) → Found (low + 1) high from to a
       → (a ≡ None → Found low high from to b) → Found low high from to (option_or a b)
-  found_or low high from to None b f g path e = g refl path e
-  found_or low high from to (Some p) b f g path e =
-      let same : p ≡ path = cc in subst (IsOver low high from to) same (wider low high from to p (f p refl))
+  found_or low high from to a b h h2 = grind (arith, wider)
 
   one_wait : (low high from to : ℕ) (x : Option Wait) → wait_between waits from to ≡ x → Found low high from to (option_map (λ w. w ∷ []) x)
-  one_wait low high from to None is path e = absurd cc
-  one_wait low high from to (Some w) is path e =
-      let f = in_find (λ w. w.ch == from && w.by.ch == to) waits w is in
-      let both = and_parts (w.ch == from) (w.by.ch == to) f.1 in
-      let same : w ∷ [] ≡ path = cc in
-      record { first = w; rest = []; is = sym same; over = (f.0, eqb-true w.ch from both.0, eqb-true w.by.ch to both.1); once = λ i j d l h. omega (arith, h) }
+  one_wait low high from to x h = grind (arith, in_find, and_parts, eqb-true)
 
   pub way_is : (low high from to n : ℕ) → low + n ≡ high → Found low high from to (way waits from to low n)
   way_is low high from to zero m path e = one_wait low high from to (wait_between waits from to) refl path e
@@ -235,9 +220,7 @@ module _ (waits : List Wait) where
 
   over_above : (first high from to : ℕ) (w : Wait) (more : List Wait) → Over (first + 1) high from to w more → All (λ x. first < x.ch) more
   over_above first high from to w [] o = All-nil (λ x. first < x.ch)
-  over_above first high from to w (x ∷ more) o =
-      let here = over_ch (first + 1) high w.by.ch to x more o.4 in
-      All-cons (λ x. first < x.ch) x more (omega (arith, here, o.2)) (over_above first high w.by.ch to x more o.4)
+  over_above first high from to w (x ∷ more) o = grind (arith, over_ch, All-cons, over_above first high w.by.ch to x more o.4)
 
   pub way_over : (first high from to : ℕ) (w : Wait) (more : List Wait) → All (λ x. x.ch < high) waits → All (Contains waits) (w ∷ more)
       → IsWay from to (w ∷ more) → All (λ x. first < x.ch) more → Over (first + 1) high from to w more

@@ -1,7 +1,8 @@
 -- What a list made of another contains.
-use Rattle.std.proofs.Common.{◌≡◌, zero, suc, List, [], ◌∷◌, map, Option, Some, None, Bool, true, false, refl, ap, sym, ◌∙◌, subst, arith, inl, inr, ◌⊎◌}
+use Rattle.std.proofs.Common.{◌≡◌, List, [], ◌∷◌, map, Option, Some, None, Bool, true, false, refl, ap, sym, ◌∙◌, subst, arith, inl, inr, ◌⊎◌}
 use Rattle.std.specs.{Prelude.find, List.All, List.Contains, List.cons_option, List.filter, List.filter_map, List.flat_map}
 use Rattle.std.proofs.lemmas.Bool.{cases_Bool}
+use Rattle.std.proofs.lemmas.List.Concat.{flat_map_single}
 use Rattle.std.proofs.lemmas.List.Elements.{Contains-append_cases, Contains-append_left, Contains-append_right, Contains-get_or}
 
 -- ---- one element more
@@ -16,28 +17,13 @@ pub in_none : {X : Type 0} (y : X) → Contains [] y → ⊥
 in_none y (k, l, e) = omega (arith, l)
 
 pub in_cases : {X : Type 0} (x : X) (xs : List X) (y : X) → Contains (x ∷ xs) y → (x ≡ y) ⊎ Contains xs y
-in_cases x xs y (zero, l, e) = inl e
-in_cases x xs y (suc k, l, e) = inr (k, omega (arith, l), e)
+in_cases x xs y h = grind (arith)
 
 -- what holds of each element, by the elements
 pub All-from_in : {X : Type 0} (P : X → Type 0) (xs : List X) → ((x : X) → Contains xs x → P x) → All P xs
 All-from_in P xs h k d l = h _ (Contains-get_or xs k d l)
 
 -- ---- made of another list
-
-pub in_map : {X Y : Type 0} (f : X → Y) (xs : List X) (y : Y) → Contains (map f xs) y → (x : X) × Contains xs x × (f x ≡ y)
-in_map f [] y h = absurd (in_none y h)
-in_map f (x ∷ xs) y h = elim (in_cases (f x) (map f xs) y h) [
-  | inl e ↦ (x, in_first x xs, e)
-  | inr i ↦ let r = in_map f xs y i in (r.0, in_rest x xs r.0 r.1, r.2)
-]
-
-pub map_in : {X Y : Type 0} (f : X → Y) (xs : List X) (x : X) → Contains xs x → Contains (map f xs) (f x)
-map_in f [] x h = absurd (in_none x h)
-map_in f (y ∷ xs) x h = elim (in_cases y xs x h) [
-  | inl e ↦ subst (λ z. Contains (map f (y ∷ xs)) (f z)) e (in_first (f y) (map f xs))
-  | inr i ↦ in_rest (f y) (map f xs) (f x) (map_in f xs x i)
-]
 
 pub in_flat_map : {X Y : Type 0} (f : X → List Y) (xs : List X) (y : Y) → Contains (flat_map f xs) y → (x : X) × Contains xs x × Contains (f x) y
 in_flat_map f [] y h = absurd (in_none y h)
@@ -53,9 +39,17 @@ flat_map_in f (z ∷ xs) x y h i = elim (in_cases z xs x h) [
   | inr j ↦ Contains-append_right (f z) (flat_map f xs) y (flat_map_in f xs x y j i)
 ]
 
+pub in_map : {X Y : Type 0} (f : X → Y) (xs : List X) (y : Y) → Contains (map f xs) y → (x : X) × Contains xs x × (f x ≡ y)
+in_map f xs y h =
+    let r = in_flat_map (λ x. f x ∷ []) xs y (subst (λ l. Contains l y) (sym (flat_map_single f xs)) h) in
+    (r.0, r.1, elim (in_cases (f r.0) [] y r.2) [ inl e ↦ e | inr none ↦ absurd (in_none y none) ])
+
+pub map_in : {X Y : Type 0} (f : X → Y) (xs : List X) (x : X) → Contains xs x → Contains (map f xs) (f x)
+map_in f xs x h =
+    subst (λ l. Contains l (f x)) (flat_map_single f xs) (flat_map_in (λ x. f x ∷ []) xs x (f x) h (in_first (f x) []))
+
 in_cons_option : {Y : Type 0} (o : Option Y) (ys : List Y) (y : Y) → Contains (cons_option o ys) y → (o ≡ Some y) ⊎ Contains ys y
-in_cons_option None ys y h = inr h
-in_cons_option (Some z) ys y h = elim (in_cases z ys y h) [ inl e ↦ inl (ap (λ a. Some a) e) | inr i ↦ inr i ]
+in_cons_option o ys y h = grind (arith, in_cases)
 
 cons_option_in : {Y : Type 0} (o : Option Y) (ys : List Y) (y : Y) → Contains ys y → Contains (cons_option o ys) y
 cons_option_in None ys y h = h

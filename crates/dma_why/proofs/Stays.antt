@@ -1,15 +1,16 @@
 -- No step moves a channel of a circle.
+use Rattle.std.proofs.Common.{arith}
 use Rattle.std.proofs.Common.{◌≡◌, ◌≢◌, ℕ, ◌<◌, List, [], ◌∷◌, length, map, Option, Some, None, Bool, true, false, refl, ap, sym, ◌∙◌, subst, inl, inr, ◌⊎◌}
-use Rattle.std.specs.{Prelude.◌==◌, Prelude.find, Prelude.nat_le, Prelude.not, Prelude.Err, List.Contains}
-use Rattle.std.proofs.lemmas.Bool.{cases_eq, cases_lt, cond_both, eqb-false, eqb-true, le-leb, lt-leb, true≢false}
+use Rattle.std.specs.{Prelude.◌==◌, Prelude.find, Prelude.nat_le, List.Contains}
+use Rattle.std.proofs.lemmas.Bool.{cases_eq, cases_lt, cond_both, eqb-false, eqb-true, le-leb, lt-leb}
 use Rattle.std.proofs.lemmas.List.Elements.{All-contains}
 use Rattle.dma_insn.specs.declared.chip.ChipInsn.TheVariants.{Wfe}
 use Rattle.dma_mem.specs.{Places.Descriptor, Places.is_free_of, declared.call.Call.TheVariants.Step}
 use Rattle.dma_chan.specs.Traffic.{member}
 use Rattle.dma_engine.specs.Object.{ChannelState, Object, channel, is_set, issued_front}
-use Rattle.dma_engine.specs.Turn.{Stepped, first_conflicting, insn_turn, last_step, start_turn, turn}
-use Rattle.dma_engine.specs.View.{ChannelSchedule, IsSound, RunningTransfer, View, channels, object_of, running_in, runs, schedule_at}
-use Rattle.dma_engine.specs.{declared.call.Reply.Reply, declared.fault.EngineFault.TheVariants.StepsSpent, Answer.AreAnswers, Answer.CallAnswers, Room.IsIdle}
+use Rattle.dma_engine.specs.Turn.{start_turn, turn}
+use Rattle.dma_engine.specs.View.{ChannelSchedule, IsSound, RunningTransfer, View, channels, object_of, runs, schedule_at}
+use Rattle.dma_engine.specs.{declared.call.Reply.Reply, Answer.AreAnswers, Answer.CallAnswers, Room.IsIdle}
 use Rattle.dma_engine.proofs.WhatRuns.{All_find, find_none_at}
 use Rattle.dma_engine.proofs.{IdleSteps.idle_steps_stay, Queues.front_issued, StaysSound.answers_stay_sound, Turns.answer_is}
 use Rattle.dma_commands.specs.Left.{view_after}
@@ -99,31 +100,15 @@ wait_stuck v w i =
 -- ---- its next step changes nothing
 
 start_idle : (v : View) (ch : ℕ) (x : Option RunningTransfer) → (x ≡ None → ⊥) → IsIdle (start_turn v ch x).0
-start_idle v ch None some = absurd (some refl)
-start_idle v ch (Some r) some = tt
+start_idle v ch x h = grind (arith)
 
 stuck_idle : (v : View) (ch by : ℕ) → ch < channels v → by < channels v → IsStuck v ch by → IsIdle (turn v ch).0
-stuck_idle v ch by less there (inl h) =
-    let here : nat_le (channels v) ch ≡ false = lt-leb _ _ less in
-    let hit : not (is_free_of h.transfer h.runs.transfer) ≡ true = rw h.conflicts refl in
-    let some : first_conflicting v h.transfer ≡ None → ⊥ = λ none.
-    true≢false (sym hit ∙ find_none_at (λ r. not (is_free_of h.transfer r.transfer)) (object_of v) v.schedule by h.runs there none h.is) in
-    rw (here, h.goes, h.active, h.issued, h.rests) (start_idle v ch (first_conflicting v h.transfer) some)
-stuck_idle v ch by less there (inr h) =
-    let here : nat_le (channels v) ch ≡ false = lt-leb _ _ less in
-    rw (here, h.goes, h.active, h.issued, h.runs)
-    (cond_both {A = Stepped} (v.steps == last_step) (Err StepsSpent, v) (insn_turn v ch h.transfer h.taken (member h.transfer h.taken)) (λ x. IsIdle x.0)
-    (λ _. tt) (λ _. rw (h.next, h.clear) tt))
+stuck_idle v ch by h h2 h3 = grind (arith, lt-leb, find_none_at, start_idle, cond_both)
 
 -- ---- and it stays so when a third channel steps
 
 stuck_still : (v w : View) (at ch by : ℕ) → at < channels v → LeavesView v w at → ch ≢ at → by ≢ at → IsStuck v ch by → IsStuck w ch by
-stuck_still v w at ch by there l other third (inl h) =
-    let c = l.object.others ch other in
-    let s = l.schedules ch other in
-    let r : runs (object_of w) w.schedule by ≡ runs (object_of v) v.schedule by = ap (λ x. running_in by x (schedule_at w by).taken) (l.object.others by third)
-    ∙ ap (λ (x : ChannelSchedule). running_in by (channel (object_of v) by) x.taken) (l.schedules by third) in
-    inl (rw (c, s, r) h)
+stuck_still v w at ch by there l other third (inl h) = grind arith
 stuck_still v w at ch by there l other third (inr h) =
     let c = l.object.others ch other in
     let s = l.schedules ch other in
@@ -159,10 +144,7 @@ AreStuck v circle = (x : Wait) → Contains circle x → (x.ch < channels v) × 
 way_goes_on : (from to : ℕ) (path : List Wait) → IsWay from to path → (x : Wait) → Contains path x → ((y : Wait) × Contains path y × (y.ch ≡ x.by.ch))
     ⊎ (x.by.ch ≡ to)
 way_goes_on from to [] is x i = absurd (in_none x i)
-way_goes_on from to (w ∷ []) is x i = elim (in_cases w [] x i) [
-  | inl same ↦ inr (ap (λ (y : Wait). y.by.ch) (sym same) ∙ is.1)
-  | inr none ↦ absurd (in_none x none)
-]
+way_goes_on from to (w ∷ []) is x i = grind (arith, in_cases, in_none)
 way_goes_on from to (w ∷ z ∷ more) is x i = elim (in_cases w (z ∷ more) x i) [
   | inl same ↦ inl (z, in_rest w (z ∷ more) z (in_first z more), is.1.0 ∙ ap (λ (y : Wait). y.by.ch) same)
   | inr rest ↦ elim (way_goes_on w.by.ch to (z ∷ more) is.1 x rest) [
@@ -193,57 +175,54 @@ stays_same : (v w : View) (circle : List Wait) → w ≡ v → AreStuck v circle
 stays_same v w circle same h =
     (subst (λ u. AreStuck u circle) (sym same) h, λ x i. (ap (λ u. channel (object_of u) x.ch) same, ap (λ u. schedule_at u x.ch) same))
 
-member_idle : (v : View) (circle : List Wait) → IsRing circle → AreStuck v circle → (x : Wait) → Contains circle x → IsIdle (turn v x.ch).0
-member_idle v circle r h x i =
-    let next = r.closed x i in
-    let there : x.by.ch < channels v = subst (λ c. c < channels v) next.2 (h next.0 next.1).0 in
-    stuck_idle v x.ch x.by.ch (h x i).0 there (h x i).1
-
-step_stays : (v : View) (at : ℕ) (circle : List Wait) → IsSound v → IsRing circle → AreStuck v circle → Stays v (turn v at).1 circle
-step_stays v at circle sound r h = by (find (λ x. x.ch == at) circle) refl where
-  idle_stays : IsIdle (turn v at).0 → Stays v (turn v at).1 circle
-  idle_stays i = stays_same v (turn v at).1 circle (idle_steps_stay v (turn v at).1 at (turn v at).0 i refl) h
-
-  other_stays : at < channels v → ((x : Wait) → Contains circle x → x.ch ≢ at) → Stays v (turn v at).1 circle
-  other_stays less others =
-      let l = step_leaves v at sound in (
-        λ x i.
-            let next = r.closed x i in
-            let third : x.by.ch ≢ at = λ e. others next.0 next.1 (next.2 ∙ e) in
-            (rw l.object.many (h x i).0, stuck_still v (turn v at).1 at x.ch x.by.ch less l (others x i) third (h x i).1),
-        λ x i. (l.object.others x.ch (others x i), l.schedules x.ch (others x i)),
-      )
-
-  by : (o : Option Wait) → find (λ x. x.ch == at) circle ≡ o → Stays v (turn v at).1 circle
-  by (Some x) e =
-      let f = in_find (λ x. x.ch == at) circle x e in
-      idle_stays (subst (λ c. IsIdle (turn v c).0) (eqb-true x.ch at f.1) (member_idle v circle r h x f.0))
-  by None e = elim (cases_lt at (channels v)) [
-    | inr past ↦ let none : nat_le (channels v) at ≡ true = le-leb _ _ past in idle_stays (rw none tt)
-    | inl less ↦
-        let each = All_find (λ x. x.ch == at) circle e in
-        other_stays less (λ x i. eqb-false x.ch at (All-contains (λ x. (x.ch == at) ≡ false) circle x each i))
-  ]
-
 stays_on : (u v w : View) (circle : List Wait) → Stays u v circle → Stays v w circle → Stays u w circle
 stays_on u v w circle a b = (b.0, λ x i. ((b.1 x i).0 ∙ (a.1 x i).0, (b.1 x i).1 ∙ (a.1 x i).1))
 
-answer_stays : (v w : View) (at : ℕ) (reply : Reply) (circle : List Wait) → IsSound v → IsRing circle → AreStuck v circle → CallAnswers v (Step at) reply w
-    → Stays v w circle
-answer_stays v w at reply circle sound r h a = elim (answer_is v w (Step at) reply a) [
-  | inl none ↦ stays_same v w circle none.1 h
-  | inr is ↦ subst (λ u. Stays v u circle) (sym (ap (λ (y : Reply × View). y.1) is)) (step_stays v at circle sound r h)
-]
+module _ (circle : List Wait) (r : IsRing circle) where
+  member_idle : (v : View) → AreStuck v circle → (x : Wait) → Contains circle x → IsIdle (turn v x.ch).0
+  member_idle v h x i =
+      let next = r.closed x i in
+      let there : x.by.ch < channels v = subst (λ c. c < channels v) next.2 (h next.0 next.1).0 in
+      stuck_idle v x.ch x.by.ch (h x i).0 there (h x i).1
 
-steps_stay : (circle : List Wait) → IsRing circle → (steps : List ℕ) (replies : List Reply) (v w : View) → IsSound v → AreStuck v circle
-    → AreAnswers v (map Step steps) replies w → Stays v w circle
-steps_stay circle r [] [] v w sound h a = stays_same v w circle a h
-steps_stay circle r [] (reply ∷ replies) v w sound h a = absurd a
-steps_stay circle r (at ∷ steps) [] v w sound h a = absurd a
-steps_stay circle r (at ∷ steps) (reply ∷ replies) v w sound h a =
-    let first = answer_stays v a.0 at reply circle sound r h a.1 in
-    let next = answers_stay_sound v a.0 (Step at) reply tt sound a.1 in
-    stays_on v a.0 w circle first (steps_stay circle r steps replies a.0 w next first.0 a.2)
+  step_stays : (v : View) (at : ℕ) → IsSound v → AreStuck v circle → Stays v (turn v at).1 circle
+  step_stays v at sound h = by (find (λ x. x.ch == at) circle) refl where
+    idle_stays : IsIdle (turn v at).0 → Stays v (turn v at).1 circle
+    idle_stays i = stays_same v (turn v at).1 circle (idle_steps_stay v (turn v at).1 at (turn v at).0 i refl) h
+
+    by : (o : Option Wait) → find (λ x. x.ch == at) circle ≡ o → Stays v (turn v at).1 circle
+    by (Some x) e =
+        let f = in_find (λ x. x.ch == at) circle x e in
+        idle_stays (subst (λ c. IsIdle (turn v c).0) (eqb-true x.ch at f.1) (member_idle v h x f.0))
+    by None e = elim (cases_lt at (channels v)) [
+      | inr past ↦ let none : nat_le (channels v) at ≡ true = le-leb _ _ past in idle_stays (rw none tt)
+      | inl less ↦
+          let each = All_find (λ x. x.ch == at) circle e in
+          let others : (x : Wait) → Contains circle x → x.ch ≢ at = λ x i.
+          eqb-false x.ch at (All-contains (λ x. (x.ch == at) ≡ false) circle x each i) in
+          let l = step_leaves v at sound in (
+            λ x i.
+                let next = r.closed x i in
+                let third : x.by.ch ≢ at = λ e. others next.0 next.1 (next.2 ∙ e) in
+                (rw l.object.many (h x i).0, stuck_still v (turn v at).1 at x.ch x.by.ch less l (others x i) third (h x i).1),
+            λ x i. (l.object.others x.ch (others x i), l.schedules x.ch (others x i)),
+          )
+    ]
+
+  answer_stays : (v w : View) (at : ℕ) (reply : Reply) → IsSound v → AreStuck v circle → CallAnswers v (Step at) reply w → Stays v w circle
+  answer_stays v w at reply sound h a = elim (answer_is v w (Step at) reply a) [
+    | inl none ↦ stays_same v w circle none.1 h
+    | inr is ↦ subst (λ u. Stays v u circle) (sym (ap (λ (y : Reply × View). y.1) is)) (step_stays v at sound h)
+  ]
+
+  steps_stay : (steps : List ℕ) (replies : List Reply) (v w : View) → IsSound v → AreStuck v circle → AreAnswers v (map Step steps) replies w → Stays v w circle
+  steps_stay [] [] v w sound h a = stays_same v w circle a h
+  steps_stay [] (reply ∷ replies) v w sound h a = absurd a
+  steps_stay (at ∷ steps) [] v w sound h a = absurd a
+  steps_stay (at ∷ steps) (reply ∷ replies) v w sound h a =
+      let first = answer_stays v a.0 at reply sound h a.1 in
+      let next = answers_stay_sound v a.0 (Step at) reply tt sound a.1 in
+      stays_on v a.0 w circle first (steps_stay steps replies a.0 w next first.0 a.2)
 
 pub circles_stay : (v : View) → IsSound v → CirclesStay v
 circles_stay v sound w first [] steps replies is a = absurd is
@@ -252,7 +231,7 @@ circles_stay v sound w first (x ∷ more) steps replies is a =
     let r = ring (waits_of v) first circle is in
     let h : AreStuck v circle = λ y i. wait_stuck v y (All-contains (Contains (waits_of v)) circle y is.0 i) in
     let s = steps_stay circle r steps replies v w sound h a in
-    All-from_in (λ y. IsStill v w y.ch) circle (λ y i. record { idle = member_idle w circle r s.0 y i; state = (s.1 y i).0; schedule = (s.1 y i).1 })
+    All-from_in (λ y. IsStill v w y.ch) circle (λ y i. record { idle = member_idle circle r w s.0 y i; state = (s.1 y i).0; schedule = (s.1 y i).1 })
 
 pub circles_stay_after : (input : List ℕ) → CirclesStayAfter input
 circles_stay_after input = record {

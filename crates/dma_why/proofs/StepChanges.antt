@@ -1,20 +1,18 @@
 -- What a step of one channel changes for the others: nothing of their states, no flag that it doesn't signal, and it
 -- adds no cookie that would signal.
-use Rattle.std.proofs.Common.{◌≡◌, ◌≢◌, ℕ, ◌+◌, ◌-◌, ◌<◌, List, [], ◌∷◌, ◌++◌, length, Some, Bool, true, false, refl, ap, sym, ◌∙◌, subst, arith, inl, inr, ◌⊎◌}
+use Rattle.std.proofs.Common.{◌≡◌, ◌≢◌, ℕ, ◌+◌, ◌<◌, List, [], ◌∷◌, ◌++◌, length, Some, Bool, true, false, refl, ap, sym, ◌∙◌, subst, arith, inl, inr, ◌⊎◌}
 use Rattle.std.proofs.Common.{length-append}
-use Rattle.std.specs.Prelude.{◌==◌, ◌&&◌, ◌||◌, nat_le, not, slice_index_or, slice_set}
+use Rattle.std.specs.Prelude.{slice_index_or, slice_set}
 use Rattle.std.proofs.lemmas.Bool.{and_parts, and_right, cases_eq, cases_lt, eq-eqb, lt-leb, ne_eqb, not-true, or_parts}
 use Rattle.std.proofs.lemmas.List.{get_or-set_other, get_or-set_same, get_or_past, length-set}
 use Rattle.dma_mem.specs.Places.{Descriptor}
 use Rattle.dma_engine.specs.declared.entry.Entry.TheVariants.{Finished, Passed, Signalled}
-use Rattle.dma_engine.specs.declared.outcome.TransResult.TheVariants.{Aborted, NoError, ReadFailed, WriteFailed}
-use Rattle.dma_engine.specs.Object.{Allows, ChannelState, Object, after, channel, empty_channel, finished, front, is_set, used, with_outcome}
+use Rattle.dma_engine.specs.Object.{Allows, ChannelState, Object, after, channel, finished, front, is_set, used, with_outcome}
 use Rattle.dma_engine.specs.View.{ChannelSchedule, IsSound, View, idle, object_of, schedule_at}
 use Rattle.dma_engine.specs.{declared.entry.Entry.Entry, declared.entry.Signaller.TheVariants.Channel, declared.outcome.TransResult.TransResult}
 use Rattle.dma_engine.specs.{History.IsLegal, History.object_after, Turn.Stepped, Turn.turn}
 use Rattle.dma_engine.proofs.{Histories.object_after_append, Queues.front_where, StaysSound.stepped_sound, Turns.turn_cases}
-use Rattle.dma_why.specs.Waits.{signals}
-use Rattle.dma_why.proofs.ViewWaits.{WouldBy, transfer_in}
+use Rattle.dma_why.proofs.ViewWaits.{WouldBy}
 
 -- ---- what a step leaves
 
@@ -34,51 +32,25 @@ pub record LeavesView (v w : View) (ch : ℕ) : Type 0 where
 
 -- a channel that has signalled or finished
 would_signalled : (c : ChannelState) (event number : ℕ) → c.signalled ≡ false → WouldBy (record c { signalled = true }) event number → WouldBy c event number
-would_signalled c event number not_yet h =
-    let parts = and_parts (not (c.halted || (number == finished c + 1))) (signals event (transfer_in c number)) h.2 in
-    let goes = or_parts c.halted (number == finished c + 1) (not-true _ parts.0) in
-    (h.0, h.1, rw (goes.0, not_yet) parts.1)
+would_signalled c event number not_yet h = grind (arith, and_parts, or_parts, not-true)
 
 would_finished : (c : ChannelState) (how : TransResult) (done event number : ℕ) → c.halted ≡ false → WouldBy (with_outcome c how done) event number
     → WouldBy c event number
-would_finished c how done event number goes h =
-    let d = with_outcome c how done in
-    let more : length d.outcomes ≡ length c.outcomes + 1 = length-append c.outcomes _ in
-    let above : finished c + 1 < number = omega (arith, h.0, more) in
-    let later = and_parts (not (d.halted || (false && (number == finished d + 1)))) (signals event (transfer_in c number)) h.2 in
-    let other : (number == finished c + 1) ≡ false = ne_eqb number (finished c + 1) (λ e. omega (arith, e, above)) in
-    let rest = and_right c.signalled (number == finished c + 1) other in
-    (omega (arith, above), omega (arith, h.0, h.1, more), rw (goes, rest) later.1)
+would_finished c how done event number goes h = grind (arith, length-append, and_parts, ne_eqb, and_right)
 
 -- a front that signals an event would signal it
 front_would : (c : ChannelState) (event : ℕ) (t : Descriptor) → c.halted ≡ false → c.signalled ≡ false → front c ≡ Some t → finished c < used c
     → t.signal ≡ Some event → WouldBy c event (finished c + 1)
-front_would c event t goes not_yet is within signals_it =
-    let here : nat_le (finished c + 1) c.forgotten ≡ false = lt-leb _ _ (omega arith) in
-    let place : finished c + 1 - c.forgotten - 1 ≡ length c.outcomes = omega arith in
-    (omega arith, omega (arith, within), rw (goes, not_yet, here, place, is, signals_it) (eq-eqb event event refl))
+front_would c event t goes not_yet is within signals_it = grind (arith, lt-leb, eq-eqb)
 
 flag_cleared : (events : List Bool) (event e : ℕ) → slice_index_or events e false ≡ false → slice_index_or (slice_set events event false) e false ≡ false
-flag_cleared events event e clear = elim (cases_eq e event) [
-  | inr other ↦ get_or-set_other events event e false false other ∙ clear
-  | inl same ↦ elim (cases_lt event (length events)) [
-    | inl less ↦ rw same (get_or-set_same events event false false less)
-    | inr past ↦ get_or_past (slice_set events event false) e false (omega (arith, same, past, length-set events event false))
-  ]
-]
+flag_cleared events event e clear = grind (arith, cases_eq, get_or-set_other, cases_lt, get_or-set_same, get_or_past, length-set)
 
 -- one channel has another state
 leaves_set : (o p : Object) (ch : ℕ) (d : ChannelState) → p.channels ≡ slice_set o.channels ch d → ch < length o.channels
     → ((event number : ℕ) → WouldBy d event number → WouldBy (channel o ch) event number)
     → ((event : ℕ) → is_set o event ≡ false → (is_set p event ≡ false) ⊎ ((number : ℕ) × WouldBy (channel o ch) event number)) → Leaves o p ch
-leaves_set o p ch d is less fewer clear =
-    let at : (k : ℕ) → channel p k ≡ slice_index_or (slice_set o.channels ch d) k empty_channel = λ k. ap (λ l. slice_index_or l k empty_channel) is in
-    record {
-      many = ap length is ∙ length-set o.channels ch d;
-      others = λ k g. at k ∙ get_or-set_other o.channels ch k d empty_channel g;
-      fewer = λ e n h. fewer e n (subst (λ x. WouldBy x e n) (at ch ∙ get_or-set_same o.channels ch d empty_channel less) h);
-      clear = clear;
-    }
+leaves_set o p ch d is less fewer clear = grind (arith, length-set, get_or-set_other, get_or-set_same)
 
 leaves_passed : (o : Object) (ch event : ℕ) → ch < length o.channels → Leaves o (after o (Passed ch event)) ch
 leaves_passed o ch event less =
@@ -120,10 +92,7 @@ leaves_entered v ch x e steps l =
     leaves_scheduled v ch x (v.history ++ e ∷ []) steps (subst (λ p. Leaves (object_of v) p ch) (sym (object_after_append v.base v.history (e ∷ []))) l)
 
 may_finish : (o : Object) (ch : ℕ) (how : TransResult) (done : ℕ) → Allows o (Finished ch how done) → (channel o ch).halted ≡ false
-may_finish o ch NoError done may = may.0
-may_finish o ch ReadFailed done may = may.0
-may_finish o ch WriteFailed done may = may.0
-may_finish o ch Aborted done may = absurd may
+may_finish o ch how done h = grind (arith)
 
 abbrev LeavesStep : View → ℕ → Stepped → Type 0
 LeavesStep v ch s = IsSound s.1 → LeavesView v s.1 ch

@@ -2,7 +2,7 @@
 use Rattle.std.proofs.Common.{◌≡◌, ℕ, ◌+◌, ◌<◌, ◌≤◌, List, [], ◌∷◌, length, map, Option, Some, None, Bool, true, false, refl, ap, sym, ◌∙◌, subst, arith, inl}
 use Rattle.std.proofs.Common.{inr, ◌⊎◌}
 use Rattle.std.specs.Prelude.{◌==◌, ◌-◌, ◌&&◌, ◌||◌, cond, if◌then◌else◌, nat_le, not, slice_get, Result, Ok}
-use Rattle.std.specs.{List.All, List.Contains, List.filter, List.list_all, List.range_with_len, Option.option_map}
+use Rattle.std.specs.{List.All, List.Contains, List.filter, List.list_all, List.range_with_len}
 use Rattle.std.proofs.{lemmas.Bool.eqb-true, lemmas.List.Elements.All-contains, lemmas.List.Sums.AllPass-from_list_all}
 use Rattle.dma_mem.specs.Places.{Descriptor, is_free_of}
 use Rattle.dma_mem.proofs.SharedPlaces.{in_range, range_in}
@@ -104,14 +104,7 @@ pub record Holds (v : View) (ch by : ℕ) : Type 0 where
 -- what runs on a channel names it, and is its front
 pub runs_named : (ch : ℕ) (c : ChannelState) (taken : Option ℕ) (r : RunningTransfer) → running_in ch c taken ≡ Some r → (r.ch ≡ ch)
     × (front c ≡ Some r.transfer)
-runs_named ch c None r h = absurd cc
-runs_named ch c (Some n) r h = by (front c) h where
-  by : (o : Option Descriptor) → option_map (λ t. record { ch = ch; cookie = finished c + 1; transfer = t; taken = n }) o ≡ Some r → (r.ch ≡ ch)
-      × (o ≡ Some r.transfer)
-  by None e = absurd cc
-  by (Some t) e =
-      let same : record { ch = ch; cookie = finished c + 1; transfer = t; taken = n } ≡ r = cc in
-      (ap (λ (x : RunningTransfer). x.ch) (sym same), ap (λ (x : RunningTransfer). Some x.transfer) same)
+runs_named ch c taken r h = grind (arith)
 
 -- what runs is on a channel
 pub in_running : (v : View) (r : RunningTransfer) → Contains (running (object_of v) v.schedule) r → (r.ch < channels v)
@@ -125,11 +118,7 @@ in_running v r i =
     (omega (arith, named.0, less.1), subst (λ c. runs o v.schedule c ≡ Some r) (sym named.0) f.2)
 
 held_by : (t : Descriptor) (r : RunningTransfer) (c : Cookie) → holder t r ≡ Some c → (is_free_of t r.transfer ≡ false) × (r.ch ≡ c.ch)
-held_by t r c h = by (is_free_of t r.transfer) refl where
-  by : (b : Bool) → is_free_of t r.transfer ≡ b → (is_free_of t r.transfer ≡ false) × (r.ch ≡ c.ch)
-  by true e = let never : None ≡ Some c = rw e at h in absurd cc
-  by false e = let is : Some (record { ch = r.ch; number = r.cookie }) ≡ Some c = rw e at h in let same : record { ch = r.ch; number = r.cookie } ≡ c = cc in
-      (e, ap (λ (y : Cookie). y.ch) same)
+held_by t r c h = grind arith
 
 holders_hold : (v : View) (ch : ℕ) (o : Option Descriptor) (c : Cookie) → front (channel (object_of v) ch) ≡ o → Contains (holders_of v o) c → Holds v ch c.ch
 holders_hold v ch None c is i = absurd (in_none c i)

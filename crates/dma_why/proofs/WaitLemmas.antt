@@ -1,7 +1,8 @@
 -- Lists of cookies, of waits and of channels, one more at a time.
-use Rattle.std.proofs.Common.{◌≡◌, ℕ, ◌+◌, List, [], ◌∷◌, ◌++◌, map, zero-add, Bool, true, false, refl, ap, sym, ◌∙◌, append_assoc, append-nil, Option}
-use Rattle.std.proofs.Common.{Some, None}
-use Rattle.std.specs.List.{cons_option, filter, filter_map, flat_map, list_all, range_with_len}
+use Rattle.std.proofs.Common.{arith}
+use Rattle.std.proofs.Common.{◌≡◌, ℕ, ◌+◌, List, [], ◌∷◌, ◌++◌, map, zero-add, Bool, true, false, ap, sym, ◌∙◌, append_assoc, append-nil, Option}
+use Rattle.std.proofs.Common.{Some}
+use Rattle.std.specs.List.{filter, filter_map, flat_map, list_all, range_with_len}
 use Rattle.std.specs.{Prelude.◌==◌, Prelude.if◌then◌else◌, Prelude.slice_get, Option.option_and_then, Option.option_to_list}
 use Rattle.std.proofs.{lemmas.List.flat_map_more, lemmas.List.map-append, lemmas.List.Concat.flat_map-append, lemmas.List.Elements.filter-append}
 use Rattle.std.proofs.{lemmas.List.Elements.filter_map-append}
@@ -19,14 +20,7 @@ range_more a n = range_with_len_add a n 1
 module _ {X : Type 0} (mk : ℕ → X) (p : ℕ → Bool) (before found : List X) (a n k m : ℕ)
     (so_far : found ≡ before ++ map mk (filter p (range_with_len a n))) (is : a + n ≡ k) (next : m ≡ n + 1) where
   kept_more : found ++ map mk (filter p (k ∷ [])) ≡ before ++ map mk (filter p (range_with_len a m))
-  kept_more =
-      let kept = filter p (range_with_len a n) in
-      ap (λ l. l ++ map mk (filter p (k ∷ []))) so_far
-      ∙ append_assoc before (map mk kept) (map mk (filter p (k ∷ [])))
-      ∙ ap (λ l. before ++ l) (sym (map-append mk kept (filter p (k ∷ []))))
-      ∙ ap (λ l. before ++ map mk l) (sym (filter-append p (range_with_len a n) (k ∷ [])))
-      ∙ ap (λ j. before ++ map mk (filter p (range_with_len a n ++ j ∷ []))) (sym is)
-      ∙ ap (λ l. before ++ map mk (filter p l)) (sym (ap (range_with_len a) next ∙ range_more a n))
+  kept_more = grind (arith, append_assoc, map-append, filter-append, range_more)
 
   -- where that number passes, and where it doesn't
   pub kept_pass : p k ≡ true → found ++ mk k ∷ [] ≡ before ++ map mk (filter p (range_with_len a m))
@@ -38,10 +32,7 @@ module _ {X : Type 0} (mk : ℕ → X) (p : ℕ → Bool) (before found : List X
 -- what follows of one channel more
 pub channels_more : {X : Type 0} (f : ℕ → List X) (before : List X) (n : ℕ)
     → (before ++ flat_map f (range_with_len 0 n)) ++ f n ≡ before ++ flat_map f (range_with_len 0 (n + 1))
-channels_more f before n =
-    flat_map_more f before (range_with_len 0 n) n
-    ∙ ap (λ k. before ++ flat_map f (range_with_len 0 n ++ k ∷ [])) (sym (zero-add n))
-    ∙ ap (λ l. before ++ flat_map f l) (sym (range_more 0 n))
+channels_more f before n = grind (arith, flat_map_more, zero-add, range_more)
 
 -- the text of one channel more
 pub text_more : (f : ℕ → List (List ℕ)) (before now new : List ℕ) (n : ℕ) → now ≡ before ++ text_of (flat_map f (range_with_len 0 n))
@@ -62,30 +53,18 @@ items_more f now new n so_far more = more ∙ ap (λ l. l ++ f n) so_far ∙ cha
 -- by whether all cookies that would signal it are on one channel
 pub waits_for : (ch event : ℕ) (found : List Cookie) (by : Cookie) → Some by ≡ slice_get found 0
     → (if list_all (λ c. c.ch == by.ch) found then record { ch = ch; event = Some event; by = by } ∷ [] else []) ≡ event_wait ch event found
-waits_for ch event [] by first = absurd cc
-waits_for ch event (x ∷ xs) by first =
-    let same : by ≡ x = cc in
-    ap (λ (y : Cookie). if list_all (λ c. c.ch == y.ch) (x ∷ xs) then record { ch = ch; event = Some event; by = y } ∷ [] else []) same
+waits_for ch event found by h = grind (arith)
 
 -- ---- the fronts that hold a transfer
 
 held_here : (t : Descriptor) (x : Option RunningTransfer) → filter_map (holder t) (option_to_list x) ≡ option_to_list (option_and_then (holder t) x)
-held_here t None = refl
-held_here t (Some r) = by (holder t r) where
-  by : (y : Option Cookie) → cons_option y [] ≡ option_to_list y
-  by None = refl
-  by (Some c) = refl
+held_here t x = grind (arith)
 
 -- those on one channel more
 pub held_more : (t : Descriptor) (o : Object) (s : List ChannelSchedule) (ch : ℕ) (found : List Cookie) (x : Option Cookie)
     → found ≡ filter_map (holder t) (below o s ch) → x ≡ option_and_then (holder t) (runs o s ch)
     → found ++ option_to_list x ≡ filter_map (holder t) (below o s (ch + 1))
-held_more t o s ch found x so_far here =
-    ap (λ l. l ++ option_to_list x) so_far
-    ∙ ap (λ y. filter_map (holder t) (below o s ch) ++ option_to_list y) here
-    ∙ ap (λ l. filter_map (holder t) (below o s ch) ++ l) (sym (held_here t (runs o s ch)))
-    ∙ sym (filter_map-append (holder t) (below o s ch) (option_to_list (runs o s ch)))
-    ∙ ap (filter_map (holder t)) (sym (below_more_law o s ch))
+held_more t o s ch found x so_far here = grind (arith, held_here, filter_map-append, below_more_law)
 
 -- those on all channels
 pub held_all : (v : View) (front : Option Descriptor) (t : Descriptor) (n : ℕ) (found : List Cookie) → front ≡ Some t → n ≡ channels v

@@ -1,15 +1,13 @@
 //! The lines that say why each channel is where it is.
 #![tactic(auto, using(dma_text::proofs::Begun::begins_same, dma_text::proofs::Begun::begins_appended, dma_text::proofs::Begun::begins_more))]
 
-ghost use Rattle.std.specs.Prelude.{◌≡◌, ◌-◌, ◌++◌, ◌∷◌, [], OnOk, codes};
-ghost use Rattle.std.specs.List.{flat_map, range_with_len};
+ghost use Rattle.std.specs.Prelude.{◌≡◌, ◌-◌, ◌++◌, OnOk};
 ghost use Rattle.dma_mem.specs.Places.{size_of};
 ghost use Rattle.dma_engine.specs.Object.{channel, finished};
 ghost use Rattle.dma_engine.specs.Answer.{done_on, result_of};
-ghost use Rattle.dma_engine.specs.View.{channels, object_of};
+ghost use Rattle.dma_engine.specs.View.{object_of};
 ghost use Rattle.dma_io.specs.Command.{text_of};
-ghost use Rattle.dma_why.specs.Waits.{holders, waits_of};
-ghost use Rattle.dma_why.specs.Why.{address_text, channel_lines, circle_lines, cookie_text, ending_text, event_lines, explanation, failed_at, front_text, last_text, signaller_line, signaller_lines, state_text, texts_between, transfer_or_none};
+ghost use Rattle.dma_why.specs.Why.{address_text, channel_lines, circle_lines, ending_text, event_lines, explanation, failed_at, front_text, last_text, signaller_lines, state_text, texts_between, transfer_or_none};
 
 use crate::circles::circle_from;
 use crate::waits::{Cookie, Wait, holders, signallers, waits};
@@ -134,16 +132,6 @@ fn push_between<T: Text>(between: &str, values: &[T], out: &mut Vec<u8>) -> Resu
     Ok(())
 }
 
-/// Appends which running fronts hold the front of a channel.
-fn push_holders(alloc: Global, engine: &Engine, ch: u8, out: &mut Vec<u8>) -> Result<(), AllocError>
-    ensures { OnOk result (out.new.items ≡ out.old.items
-        ++ (codes ": held by " ++ texts_between (codes ", ") cookie_text (holders engine.now.view ch))) }
-{
-    let found = holders(alloc, engine, ch)?;
-    ": held by ".push(out)?;
-    push_between(", ", &found, out)
-}
-
 /// Appends what a channel does whose next step has this result.
 fn push_state(
     alloc: Global,
@@ -158,7 +146,11 @@ fn push_state(
     match turned {
         Ok(Turn::Nothing) if engine.unfinished(ch) == 0 => Ok(()),
         Ok(Turn::Nothing) => ": not issued".push(out),
-        Ok(Turn::Held { .. }) => push_holders(alloc, engine, ch, out),
+        Ok(Turn::Held { .. }) => {
+            let found = holders(alloc, engine, ch)?;
+            ": held by ".push(out)?;
+            push_between(", ", &found, out)
+        }
         Ok(Turn::Started(_)) => ": can start".push(out),
         Ok(Turn::Moved) => ": runs".push(out),
         Ok(Turn::Waiting(event)) => (": waits for event ", event).push(out),
@@ -185,14 +177,6 @@ fn push_state(
     }
 }
 
-/// Appends the line of a cookie that would signal an event.
-fn push_signaller(cookie: Cookie, out: &mut Vec<u8>) -> Result<(), AllocError>
-    ensures { OnOk result
-        (out.new.items ≡ out.old.items ++ text_of (signaller_line cookie ∷ [])) }
-{
-    print_line(out, &("  ", cookie, " would signal it"))
-}
-
 /// Appends the lines of the cookies that would signal an event.
 fn push_signallers(found: &[Cookie], out: &mut Vec<u8>) -> Result<(), AllocError>
     ensures { OnOk result
@@ -202,7 +186,7 @@ fn push_signallers(found: &[Cookie], out: &mut Vec<u8>) -> Result<(), AllocError
         return print_line(out, &"  no unfinished cookie would signal it");
     }
     for cookie in found {
-        push_signaller(*cookie, out)?;
+        print_line(out, &("  ", *cookie, " would signal it"))?;
     }
     Ok(())
 }
@@ -258,34 +242,8 @@ fn push_circle(
     "\n".push(out)
 }
 
-/// Appends the lines of all channels.
-fn push_channels(alloc: Global, engine: &Engine, out: &mut Vec<u8>) -> Result<(), AllocError>
-    ensures { OnOk result (out.new.items ≡ out.old.items
-        ++ text_of (flat_map (channel_lines engine.now.view) (range_with_len 0 (channels engine.now.view)))) }
-{
-    for ch in 0..engine.channels() {
-        push_channel(alloc, engine, ch, out)?;
-    }
-    Ok(())
-}
-
-/// Appends a line for each of these channels that is the lowest of a circle.
-fn push_circles(
-    alloc: Global,
-    waits: &[Wait],
-    channels: u8,
-    out: &mut Vec<u8>,
-) -> Result<(), AllocError>
-    ensures { OnOk result (out.new.items ≡ out.old.items
-        ++ text_of (flat_map (circle_lines waits.now channels) (range_with_len 0 channels))) }
-{
-    for first in 0..channels {
-        push_circle(alloc, waits, channels, first, out)?;
-    }
-    Ok(())
-}
-
 /// Appends why each channel is where it is.
+#[tactic(auto, using(crate::proofs::WaitLemmas::text_more))]
 pub(crate) fn push_explanation(
     alloc: Global,
     engine: &Engine,
@@ -294,7 +252,13 @@ pub(crate) fn push_explanation(
     ensures { OnOk result
         (out.new.items ≡ out.old.items ++ text_of (explanation engine.now.view)) }
 {
-    push_channels(alloc, engine, out)?;
+    let channels = engine.channels();
+    for ch in 0..channels {
+        push_channel(alloc, engine, ch, out)?;
+    }
     let waits = waits(alloc, engine)?;
-    push_circles(alloc, &waits, engine.channels(), out)
+    for first in 0..channels {
+        push_circle(alloc, &waits, channels, first, out)?;
+    }
+    Ok(())
 }

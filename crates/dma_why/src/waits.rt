@@ -97,6 +97,7 @@ fn push_signallers(
 }
 
 /// Returns the unfinished cookies that would signal an event, by channels and then by numbers.
+#[tactic(auto, using(crate::proofs::WaitLemmas::items_more))]
 pub fn signallers(alloc: Global, engine: &Engine, event: u8) -> Result<Vec<Cookie>, AllocError>
     ensures { IfOk result
         (λ found. found.items ≡ signallers (object_of engine.now.view) event) }
@@ -174,27 +175,6 @@ fn event_wait(ch: u8, event: u8, found: &[Cookie]) -> Option<Wait>
     })
 }
 
-/// Appends what a channel waits for whose front is held.
-fn push_held(
-    alloc: Global,
-    engine: &Engine,
-    ch: u8,
-    waits: &mut Vec<Wait>,
-) -> Result<(), AllocError>
-    ensures { OnOk result (waits.new.items ≡ waits.old.items ++ map
-        (λ by. record { ch = ch; event = None; by = by }) (holders engine.now.view ch)) }
-{
-    let found = holders(alloc, engine, ch)?;
-    for by in &found {
-        waits.push(Wait {
-            ch,
-            event: None,
-            by: *by,
-        })?;
-    }
-    Ok(())
-}
-
 /// Appends what a channel waits for.
 fn push_waits(
     alloc: Global,
@@ -206,7 +186,17 @@ fn push_waits(
         (waits.new.items ≡ waits.old.items ++ waits_on engine.now.view ch) }
 {
     match engine.next_turn(ch) {
-        Ok(Turn::Held { .. }) => push_held(alloc, engine, ch, waits),
+        Ok(Turn::Held { .. }) => {
+            let found = holders(alloc, engine, ch)?;
+            for by in &found {
+                waits.push(Wait {
+                    ch,
+                    event: None,
+                    by: *by,
+                })?;
+            }
+            Ok(())
+        }
         Ok(Turn::Waiting(event)) => {
             let found = signallers(alloc, engine, event)?;
             if let Some(wait) = event_wait(ch, event, &found) {
@@ -219,6 +209,7 @@ fn push_waits(
 }
 
 /// Returns what all channels wait for, by channels.
+#[tactic(auto, using(crate::proofs::WaitLemmas::items_more))]
 pub fn waits(alloc: Global, engine: &Engine) -> Result<Vec<Wait>, AllocError>
     ensures { IfOk result (λ waits. waits.items ≡ waits_of engine.now.view) }
 {

@@ -1,7 +1,7 @@
-use Rattle.std.proofs.Common.{◌≡◌, [], ◌++◌, ◌∙◌, List, ℕ, ap, rules, sym, subst}
+use Rattle.std.proofs.Common.{arith}
+use Rattle.std.proofs.Common.{◌≡◌, [], ◌++◌, ◌∙◌, List, ℕ, ap, rules, sym}
 use Rattle.std.specs.Vec.{vec_len}
 use Rattle.std.proofs.{lemmas.Bool.eqb-true, lemmas.List.nil_from_length}
-use Rattle.dma_io.specs.Command.{Answers, Printed}
 use Rattle.dma_commands.proofs.DisLemmas.{printed_stops, text_answered}
 use Rattle.dma_commands.proofs.dis.print_text.Goals as goal
 
@@ -17,7 +17,4 @@ returns-in_ok-print-in-Ok c =
     (c.in_ok-print-in-Ok.ensures.ok ∙ ap (λ (t : List ℕ). c.args.out.now.items ++ t) c.as_slice.ensures.value)
 
 pub returns-in-Err-Decode : goal.returns-in-Err-Decode
-returns-in-Err-Decode c =
-    let stood = rw c.in-Err-Decode.field-0-is at c.in-Err-Decode.ensures.fault in
-    let stops = printed_stops c.args.bytes.now c.in-Err-Decode.offset c.in-Err-Decode.fault stood in
-    subst (λ (p : Printed). Answers p c.refuse_decoding.result c.args.out.now.items c.refuse_decoding.new.out.items) (sym stops) c.refuse_decoding.ensures
+returns-in-Err-Decode c = grind (arith, printed_stops)

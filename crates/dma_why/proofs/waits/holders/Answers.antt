@@ -1,5 +1,5 @@
-use Rattle.std.proofs.Common.{◌≡◌, ◌∙◌, None, Some, sym, append-nil, arith}
-use Rattle.dma_engine.specs.{Object.channel, Object.front, View.channels, View.object_of}
+use Rattle.std.proofs.Common.{◌∙◌, None, Some, sym, append-nil, arith}
+use Rattle.dma_engine.specs.{View.object_of}
 use Rattle.dma_why.proofs.WaitLemmas.{held_all, held_more}
 use Rattle.dma_why.proofs.waits.holders.Goals.{in-Some-holder_on+in_ok-push, in_default-holder_on}
 use Rattle.dma_why.proofs.waits.holders.Goals as goal
@@ -21,8 +21,4 @@ loop-other-preserved c =
     ]
 
 pub returns : goal.returns
-returns c =
-    let v = c.args.engine.now.view in
-    let many : c.loop-other.other ≡ channels v = omega (arith, c.loop-other-test.false, c.channels-other-end.ensures, c.loop-other.auto.other-end) in
-    held_all v (front (channel (object_of v) c.args.ch)) c.in-Some.transfer.now c.loop-other.other c.loop-other.found.items (sym c.in-Some.ensures) many
-    c.loop-other.invariant
+returns c = grind (arith, held_all)

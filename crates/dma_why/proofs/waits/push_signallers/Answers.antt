@@ -1,5 +1,5 @@
 use Rattle.std.proofs.Common.{◌≡◌, ◌+◌, ◌-◌, ◌∙◌, sym, arith}
-use Rattle.dma_engine.specs.{Object.channel, Object.finished, Object.unfinished, View.object_of}
+use Rattle.dma_engine.specs.{Object.channel, Object.finished, View.object_of}
 use Rattle.dma_why.proofs.WaitLemmas.{kept_fail, kept_pass}
 use Rattle.dma_why.proofs.waits.push_signallers.Goals.{then-signals_later+in_ok-push, else-signals_later}
 use Rattle.dma_why.proofs.waits.push_signallers.Goals as goal
@@ -22,8 +22,4 @@ loop-before-preserved c =
     )
 
 pub returns : goal.returns
-returns c =
-    let first = finished (channel (object_of c.args.engine.now.view) c.args.ch) in
-    let all : c.loop-before.before - first ≡ unfinished (channel (object_of c.args.engine.now.view) c.args.ch) =
-    omega (arith, c.loop-before.invariant.1, c.loop-before-test.false, c.used-before-end.ensures) in
-    rw all at c.loop-before.invariant.0
+returns c = grind arith

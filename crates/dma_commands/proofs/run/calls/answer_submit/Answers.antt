@@ -1,3 +1,4 @@
+use Rattle.std.proofs.Common.{arith}
 use Rattle.std.proofs.lemmas.Result.{on_ok_weaker}
 use Rattle.dma_mem.specs.{Places.Descriptor, declared.call.Call.TheVariants.Submit}
 use Rattle.dma_engine.specs.declared.call.Reply.TheVariants.{Cookie, Refused}
@@ -6,10 +7,7 @@ use Rattle.dma_commands.proofs.{RunLemmas.call_runs, RunLemmas.fit_runs, RunLemm
 use Rattle.dma_commands.proofs.run.calls.answer_submit.Goals as goal
 
 pub returns-in-Err : goal.returns-in-Err
-returns-in-Err c =
-    let print = c.print_line.ensures in
-    unfit_runs c.args.engine.now.view _ c.in-Err.fault _ c.print_line.result c.args.out.now.items c.print_line.new.out.items
-    c.in-Err.ensures.err print.ok print.err
+returns-in-Err c = grind (arith, unfit_runs)
 
 pub returns-in-Ok-submit : goal.returns-in-Ok-submit
 returns-in-Ok-submit c =

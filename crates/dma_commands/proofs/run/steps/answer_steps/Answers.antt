@@ -9,22 +9,7 @@ use Rattle.dma_commands.proofs.{RunLemmas.printed_runs, StepLemmas.ended, StepLe
 use Rattle.dma_commands.proofs.run.steps.answer_steps.Goals as goal
 
 pub loop-left-init : goal.loop-left-init
-loop-left-init c =
-    let v = c.args.engine.now.view in
-    let w = c.advance-first.new.self.view in
-    let step = Step c.args.ch in
-    let is = c.advance-first.ensures.answers in
-    let added = c.in_ok-added.added in
-    let within : added ≤ c.args.count = c.in_ok-added.ensures.many.1 in
-    let back : added ≡ c.args.count - (c.args.count - added) = omega (arith, within) in
-    record {
-      left = omega (arith);
-      counted = omega (arith, c.in_ok-added.ensures.count, back);
-      view = c.in_ok-added.ensures.view v w is ∙ ap (λ (k : ℕ). (answers v (replicate k step)).1) back;
-      text = λ rest. c.in_ok-added.ensures.text v w is rest
-          ∙ ap (λ (l : List ℕ). l ++ text_of (step_lines c.args.ch (map reply_text (answers v (replicate added step)).0 ++ rest))) c.clear.ensures.items
-          ∙ ap (λ (k : ℕ). text_of (step_lines c.args.ch (map reply_text (answers v (replicate k step)).0 ++ rest))) back;
-    }
+loop-left-init c = grind arith
 
 pub loop-left-preserved : goal.loop-left-preserved
 loop-left-preserved c =

@@ -1,3 +1,4 @@
+use Rattle.std.proofs.Common.{arith}
 use Rattle.std.proofs.Common.{◌≡◌, ◌+◌, ◌++◌, ◌∙◌, List, ap, inl, inr}
 use Rattle.std.specs.Prelude.{replicate, ◌⊎◌}
 use Rattle.dma_mem.specs.declared.call.Call.TheVariants.{Step}
@@ -9,9 +10,7 @@ use Rattle.dma_commands.proofs.run.steps.take_steps.Goals.{then-is_idle, else-is
 use Rattle.dma_commands.proofs.run.steps.take_steps.Goals as goal
 
 pub returns-in_default-clause-view : goal.returns-in_default-clause-view
-returns-in_default-clause-view c =
-    let a = c.args.steps in
-    rw c.steps_before-before.ensures (λ v w is. ap (λ (x : List Reply × View). x.1) (all_steps v w c.args.ch c.args.most a is c.in_default.is))
+returns-in_default-clause-view c = grind (arith, all_steps)
 
 pub returns-in_default-clause-text : goal.returns-in_default-clause-text
 returns-in_default-clause-text c =

@@ -1,5 +1,5 @@
 use Rattle.std.proofs.Common.{◌≡◌, ◌++◌, None, map, take}
-use Rattle.dma_why.proofs.waits.push_held.Given as goal
+use Rattle.dma_why.proofs.waits.push_waits.Given as goal
 
 abbrev pub invariant-loop-by : goal.invariant-loop-by
 invariant-loop-by l =

@@ -1,9 +1,0 @@
-use Rattle.std.proofs.Common.{◌≡◌, ◌++◌}
-use Rattle.std.specs.List.{flat_map, range_with_len}
-use Rattle.dma_io.specs.Command.{text_of}
-use Rattle.dma_why.specs.Why.{circle_lines}
-use Rattle.dma_why.proofs.lines.push_circles.Given as goal
-
-abbrev pub invariant-loop-first : goal.invariant-loop-first
-invariant-loop-first l =
-    l.out.items ≡ l.initial.out.items ++ text_of (flat_map (circle_lines l.waits l.channels) (range_with_len 0 l.first))
