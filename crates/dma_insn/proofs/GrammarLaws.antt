@@ -96,9 +96,9 @@ module _ {I J : Type 0} {Ranges : I → Type 0} {spelling : I → List ℕ} {Wid
   wide_begins : (i : I) (b : ℕ) → Begins Ranges spelling i b → Begins Wide wide (into i) b
   wide_begins i b h = record { in_range = extends.in_range i h.in_range; tail = h.tail; bytes_are = extends.same i ∙ h.bytes_are }
 
-  pub more_right : {decode : List ℕ → Found I} {wide_decode : List ℕ → Found J}
-      (decodes : Decodes Ranges spelling decode) (wides : Decodes Wide wide wide_decode) (more : ℕ → List ℕ → Found J)
-      → ((b : ℕ) (rest : List ℕ) → IsBytes rest → IsUnknown decode b → Right wides (b ∷ rest) (more b (b ∷ rest)))
+  pub more_right : {f : List ℕ → Found I} {g : List ℕ → Found J}
+      (decodes : Decodes Ranges spelling f) (wides : Decodes Wide wide g) (more : ℕ → List ℕ → Found J)
+      → ((b : ℕ) (rest : List ℕ) → IsBytes rest → IsUnknown f b → Right wides (b ∷ rest) (more b (b ∷ rest)))
       → (bytes : List ℕ) (r : Found I) → IsBytes bytes → Right decodes bytes r → Right wides bytes (or_more into more bytes r)
   more_right decodes wides more beyond bytes (Ok x) h right = wide_at bytes x.0 x.1 right
   more_right decodes wides more beyond [] (Err Cut) h right = tt

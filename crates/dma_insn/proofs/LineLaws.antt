@@ -44,7 +44,7 @@ register_of_word r = grind (arith)
 -- What the words of a statement are read as: its instruction, or Range.
 loop_read : (a b : List ℕ) (c m : ℕ) → IsDecimal a c → IsDecimal b m → loop_line (a ∷ b ∷ []) ≡ ok_or (insn_of (dmalp c m)) Range
 loop_read a b c m ha hb =
-    rw (number_of_decimal a c ha, number_of_decimal b m hb, counter_capped c, times_capped m) (loop_ranges (λ k l. Lp k l) (counter_of c) (leb 1 m && leb m 256) m)
+    rw (number_of_decimal a c ha, number_of_decimal b m hb, counter_capped c, times_capped m) (loop_ranges (λ k l. Lp k l) _ (leb 1 m && leb m 256) m)
 
 loop_end_read : (a b : List ℕ) (c m : ℕ) → IsDecimal a c → IsDecimal b m → loop_end_line (a ∷ b ∷ []) ≡ ok_or (insn_of (dmalpend c m)) Range
 loop_end_read a b c m ha hb =

@@ -135,7 +135,7 @@ counter_of_number : (c : Counter) → counter_of (counter_number c) ≡ Some c
 counter_of_number c = grind (arith)
 
 registers_are : (r : Reg) (v : ℕ) → words_of (register_word r ++ (codes " " ++ (value_word v ++ []))) ≡ register_word r ∷ value_word v ∷ []
-registers_are r v = words_space (register_word r) (value_word v ++ []) (elim r as (λ q. above 32 (register_word q) ≡ true) [ Sar ↦ refl | Ccr ↦ refl | Dar ↦ refl ])
+registers_are r v = words_space (register_word r) (value_word v ++ []) (grind arith)
     ∙ ap (λ (ws : List (List ℕ)). register_word r ∷ ws) (value_words_are v)
 
 -- the words of the line are those of the statement
@@ -143,12 +143,12 @@ written : (i : Insn) → HasRanges i → IsWritten (words_of (insn_text i)) (sta
 written (Lp c n) h = loop_words (codes "DMALP") (counter_number c) n (counter_small c) (omega (arith, h.1))
 written (LpEnd c b) h = loop_words (codes "DMALPEND") (counter_number c) b (counter_small c) (omega arith)
 written (Sev e) h =
-    record { word = decimal e; words_are = ap (λ (ws : List (List ℕ)). codes "DMASEV" ∷ ws) (one_word_is e (omega arith)); number = decimal_is e (omega arith) }
+    record { word = decimal e; words_are = ap (λ ws. codes "DMASEV" ∷ ws) (one_word_is e (omega arith)); number = decimal_is e (omega arith) }
 written (Wfe e false) h =
-    record { word = decimal e; words_are = ap (λ (ws : List (List ℕ)). codes "DMAWFE" ∷ ws) (one_word_is e (omega arith)); number = decimal_is e (omega arith) }
+    record { word = decimal e; words_are = ap (λ ws. codes "DMAWFE" ∷ ws) (one_word_is e (omega arith)); number = decimal_is e (omega arith) }
 written (Wfe e true) h =
-    record { word = decimal e; words_are = ap (λ (ws : List (List ℕ)). codes "DMAWFE" ∷ ws) (invalid_words_are e (omega arith)); number = decimal_is e (omega arith) }
-written (Mov r v) h = record { words_are = ap (λ (ws : List (List ℕ)). codes "DMAMOV" ∷ ws) (registers_are r v); in_range = h }
+    record { word = decimal e; words_are = ap (λ ws. codes "DMAWFE" ∷ ws) (invalid_words_are e (omega arith)); number = decimal_is e (omega arith) }
+written (Mov r v) h = record { words_are = ap (λ ws. codes "DMAMOV" ∷ ws) (registers_are r v); in_range = h }
 written _ h = refl
 
 insn_of_statement : (i : Insn) → HasRanges i → insn_of (statement_of i) ≡ Some i

@@ -1,6 +1,5 @@
 -- How a call ends, and what may then be printed.
-use Rattle.std.proofs.Common.{arith}
-use Rattle.std.proofs.Common.{◌≡◌, ℕ, ◌<◌, ◌≤◌, inl, inr, List, ◌++◌, [], length, take, refl, ap, subst, sym, ◌∙◌, codes, Option, Some, None, IfSome, lit<, Result, Ok, Err}
+use Rattle.std.proofs.Common.{◌≡◌, ℕ, ◌<◌, inl, inr, List, ◌++◌, [], length, take, refl, ap, subst, sym, ◌∙◌, codes, Option, Some, None, IfSome, lit<, Result, Ok, Err}
 use Rattle.std.specs.Result.{result_unwrap_or}
 use Rattle.std.proofs.lemmas.Bool.{cases_lt}
 use Rattle.std.specs.Io.KnownBytes.{Appends}
@@ -30,18 +29,14 @@ unread (Some input) reader writer may old new status some (no_memory kept_reader
     out_of_memory kept_reader kept_writer one.0 one.1 0 one.2 (subst (λ n. Appends old n []) (sym same) (Appends-nil old)) three
 
 -- A call whose answer was built and sent.
-pub answered : {E : Type 0} (known : Option (List ℕ)) (reader writer : Failures) (may : List ℕ → Printed → Type 0) (old new : Option (List ℕ))
-    (input before built sent : List ℕ) (answer : Result ℕ E) (status result : ℕ) → IfSome known (λ all. input ≡ all) → length input ≤ longest_input
-    → before ≡ [] → MayAnswer (may input) answer before built → status ≡ result_unwrap_or answer 3 → sent ≡ built → Unfailed reader
-    → Wrote writer old new sent status result → IfSome known (λ all. Ends reader writer (may_print_within may all) old new result)
-answered None reader writer may old new input before built sent answer status result e short none a exit same kept wrote = tt
-answered (Some all) reader writer may old new input before built sent answer status result e short none a exit same kept (inr failed) = grind arith
-answered (Some all) reader writer may old new input before built sent (Ok s) status result e short none a exit same kept (inl wrote) =
-    let within : may_print_within may all a.printed = subst (λ i. may_print_within may i a.printed) e (inr (short, a.allowed)) in
+pub answered : {E : Type 0} (reader writer : Failures) (may : Printed → Type 0) (old new : Option (List ℕ)) (before built sent : List ℕ)
+    (answer : Result ℕ E) (status result : ℕ) → MayAnswer may answer before built → before ≡ [] → status ≡ result_unwrap_or answer 3 → sent ≡ built
+    → Unfailed reader → Wrote writer old new sent status result → Ends reader writer may old new result
+answered reader writer may old new before built sent answer status result a none exit same kept (inr failed) = output_fault failed.1 failed.0
+answered reader writer may old new before built sent (Ok s) status result a none exit same kept (inl wrote) =
     let text = same ∙ a.answers.text ∙ ap (λ front. front ++ printed_text a.printed.groups) none in
-    complete kept wrote.1.1 a.printed within (subst (Appends old new) text wrote.1.0) (wrote.0 ∙ exit ∙ a.answers.status)
-answered (Some all) reader writer may old new input before built sent (Err x) status result e short none a exit same kept (inl wrote) =
-    let within : may_print_within may all a.printed = subst (λ i. may_print_within may i a.printed) e (inr (short, a.allowed)) in
+    complete kept wrote.1.1 a.printed a.allowed (subst (Appends old new) text wrote.1.0) (wrote.0 ∙ exit ∙ a.answers.status)
+answered reader writer may old new before built sent (Err x) status result a none exit same kept (inl wrote) =
     let first = a.answers.refused in
     let text = same ∙ first.whole ∙ ap (λ front. front ++ printed_text (take first.count a.printed.groups)) none in
-    out_of_memory kept wrote.1.1 a.printed within first.count first.some_left (subst (Appends old new) text wrote.1.0) (wrote.0 ∙ exit)
+    out_of_memory kept wrote.1.1 a.printed a.allowed first.count first.some_left (subst (Appends old new) text wrote.1.0) (wrote.0 ∙ exit)

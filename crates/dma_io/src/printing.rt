@@ -1,5 +1,5 @@
 //! Prints lines: a line is a text and a line feed.
-#![tactic(auto, using(dma_text::proofs::Begun::begins_same, dma_text::proofs::Begun::begins_appended, dma_text::proofs::Begun::begins_more))]
+#![tactic(auto, using(dma_text::proofs::Begun::begun))]
 
 ghost use Rattle.std.specs.Prelude.{◌≡◌, ◌++◌, ◌∷◌, [], OnErr, OnOk};
 ghost use Rattle.dma_text.specs.Text.{Begins};

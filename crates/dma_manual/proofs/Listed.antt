@@ -260,10 +260,10 @@ lines_read (i ∷ insns) r n at labels o more range here fits =
     let line = line_read r n at labels o i (label_text behind ++ (rest ++ more)) (insn_said r labels o i here range.0 (omega arith) (omega arith)) in
     let long : length line.next.code ≡ end = ap length line.code ∙ (omega (arith, length-append r.code (spelling i))) in
     let label = label_read line.next (n + 1) labels o end (rest ++ more) behind long (line.labels ∙ here.labels_are) here.before line.quiet (omega arith)
-    (omega arith)
-    (label_behind_by i end (omega arith)) in
+    (omega arith) (label_behind_by i end (omega arith)) in
     let after = lines_read insns label.next label.number at (more_labels labels behind) end more range.1 label.at (omega arith) in
-    let split : (line_text at labels o i ++ (label_text behind ++ rest)) ++ more ≡ line_text at labels o i ++ (label_text behind ++ (rest ++ more)) = grind (arith, append_assoc) in
+    let split : (line_text at labels o i ++ (label_text behind ++ rest)) ++ more ≡ line_text at labels o i ++ (label_text behind ++ (rest ++ more)) =
+    grind (arith, append_assoc) in
     record {
       next = after.next;
       number = after.number;

@@ -36,6 +36,9 @@ pub fields_extra : (n : ℕ) (f : Fields) (rest word after : List ℕ) (whole : 
 unfolding fields_from
 fields_extra n f rest word after whole zero_n is next = grind arith
 
+-- how fields are read
+pub ruleset reading_fields = (fields_none, fields_err, fields_more, fields_last, fields_extra)
+
 -- one more line
 pub lines_more : (r new : Read) (n : ℕ) (text line after plain : List ℕ) (whole : Result Read Located) → take_lines r n (text_lines text) ≡ whole
     → text_lines text ≡ line ∷ text_lines after → plain ≡ map plain_byte (code_of line) → take_line r (n + 1) plain ≡ Ok new

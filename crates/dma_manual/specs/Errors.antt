@@ -115,6 +115,7 @@ note_by text l word (causes.Missing which) = sign_note (line_of (text_lines text
 note_by text l word causes.Label = label_note (line_with (map plain_byte (code_of word)) 0 (text_lines text))
 note_by text l word _ = notes.Nothing
 
+-- what a text says about a fault, besides the word
 abbrev pub note_of : List ℕ → Located → List ℕ → Note
 note_of text l word = note_by text l word l.cause
 

@@ -97,7 +97,7 @@ pub struct Located {
 }
 
 impl Place {
-    /// Returns this cause of a fault at the place.
+    /// Returns the fault at this place that has this cause.
     pub fn fault(self, cause: AsmCause) -> Located
         ensures { result ≡ record { place = self; cause = cause } }
     {

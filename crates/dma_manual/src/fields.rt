@@ -274,7 +274,7 @@ fn set_field(fields: &mut Fields, word: &[u8], rest: &[u8]) -> Result<(), Fault>
 const MOST_FIELDS: usize = 11;
 
 /// Reads the fields of DMAMOV CCR, and returns the control word.
-#[tactic(auto, using(crate::proofs::Readings::fields_none, crate::proofs::Readings::fields_err, crate::proofs::Readings::fields_more, crate::proofs::Readings::fields_last, crate::proofs::Readings::fields_extra))]
+#[tactic(auto, using(crate::proofs::Readings::reading_fields))]
 pub fn fields_at(rest: &[u8]) -> Result<u32, Fault>
     ensures { result ≡ fields_at rest.now }
 {

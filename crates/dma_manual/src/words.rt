@@ -1,4 +1,4 @@
-//! Cuts a line into words.
+//! Removes the comment of a line, and cuts the line into words.
 
 ghost use Rattle.std.specs.Prelude.{◌≡◌, ◌≤◌, IfOk, MatchOption, None, Some, length, map, position};
 ghost use Rattle.dma_manual.specs.Words.{begins_comment, code_of, comment_of, has_sign, is_word_byte, next_of, place_or_len, plain_byte};

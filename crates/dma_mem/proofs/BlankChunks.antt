@@ -100,4 +100,5 @@ pub record HasPut (v : Vec ℕ Global) (shown : List ℕ) (es : List (ℕ × ℕ
 pub has_put : (old new : Vec ℕ Global) (shown now all : List ℕ) (es : List (ℕ × ℕ)) → new.items ≡ bytes_shown (vec_capacity old) old.items
     → bytes_shown (vec_capacity old) old.items ≡ shown → (0 < length old.items → 16384 ≤ length old.items) → length old.items ≤ 16384 → 0 < length shown
     → now ≡ new.items → all ≡ put now es → HasPut (with_items new all) shown es
-has_put old new shown now all es adds view whole most some same writes = grind (arith, length_with_zeros, vec_capacity, length_put, shown_replaced, replaced_all)
+has_put old new shown now all es adds view whole most some same writes =
+    grind (arith, length_with_zeros, vec_capacity, length_put, shown_replaced, replaced_all)

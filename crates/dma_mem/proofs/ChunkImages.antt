@@ -7,7 +7,7 @@ use Rattle.std.proofs.lemmas.List.{length-append, length-take, length-drop}
 use Rattle.std.proofs.{lemmas.Bool.cases_lt, lemmas.Bool.cases_eq, lemmas.List.FromFn.length-map-range_with_len, lemmas.List.FromFn.get_or-map-range_with_len}
 use Rattle.std.proofs.{Math.Seq.take-add}
 use Rattle.dma_mem.specs.Image.{put, bytes_at}
-use Rattle.dma_mem.specs.inner.ChunkTable.{AreBytesFrom, PutsInChunk, chunk_at, image_of}
+use Rattle.dma_mem.specs.inner.ChunkTable.{AreBytesFrom, SameBytes, chunk_at, image_of}
 use Rattle.dma_mem.proofs.BytesPut.{lookup_bytes_before, lookup_bytes_past, lookup_bytes_at, put_parts}
 use Rattle.dma_mem.proofs.{ImagePut.length_put, ImagePut.get_or_put, BlockCopies.byte_outside}
 
@@ -48,11 +48,11 @@ lookup_bytes_moved c a x bs = elim (cases_lt x a) [
   ]
 ]
 
--- bytes laid into a chunk are put into the image
-pub image_of_laid : (size : ℕ) (chunks new : List (List ℕ)) (p offset : ℕ) (bs : List ℕ) → ((q : ℕ) → q ≢ p → chunk_at new q ≡ chunk_at chunks q)
-    → PutsInChunk (chunk_at chunks p) offset bs (chunk_at new p) → offset + length bs ≤ 16384
+-- bytes that are put into a chunk are put into the image
+pub image_of_put : (size : ℕ) (chunks new : List (List ℕ)) (p offset : ℕ) (bs : List ℕ) → ((q : ℕ) → q ≢ p → chunk_at new q ≡ chunk_at chunks q)
+    → chunk_at new p ≡ put (chunk_at chunks p) (bytes_at offset bs) → length (chunk_at chunks p) ≡ 16384 → offset + length bs ≤ 16384
     → image_of size new ≡ put (image_of size chunks) (bytes_at (16384 * p + offset) bs)
-image_of_laid size chunks new p offset bs others laid fits =
+image_of_put size chunks new p offset bs others is whole fits =
     let image = image_of size chunks in
     let es = bytes_at (16384 * p + offset) bs in
     ext_get_or 0 _ _ (length_image_of size new ∙ sym (length_put image es ∙ length_image_of size chunks)) (λ a l.
@@ -70,7 +70,8 @@ image_of_laid size chunks new p offset bs others laid fits =
           ∙ sym (get_or_image_of size chunks a m) in
           shown
           ∙ ap (λ n. get_or (chunk_at new n) k 0) e
-          ∙ laid k
+          ∙ ap (λ c. get_or c k 0) is
+          ∙ get_or_put (chunk_at chunks p) (bytes_at offset bs) k (omega (arith, whole))
           ∙ ap (λ o. unwrap_or o (get_or (chunk_at chunks p) k 0)) found
           ∙ ap (unwrap_or (lookup (nat_eq a) es)) before
           ∙ sym wanted
@@ -102,7 +103,7 @@ read_found size chunks addr n buf e h read =
 -- ---- bytes from an address on
 
 -- the bytes of a list that shows a chunk, up to the chunk's end at most
-pub part_from : (chunks : List (List ℕ)) (at n : ℕ) (chunk : List ℕ) → ((k : ℕ) → get_or chunk k 0 ≡ get_or (chunk_at chunks (at / 16384)) k 0)
+pub part_from : (chunks : List (List ℕ)) (at n : ℕ) (chunk : List ℕ) → SameBytes (chunk_at chunks (at / 16384)) chunk
     → at % 16384 + n ≤ 16384 → AreBytesFrom chunks at (take n (drop (at % 16384) chunk))
 part_from chunks at n chunk shows fits k below = grind (arith, length-take, get_or-take, get_or-drop)
 

@@ -1,18 +1,13 @@
 -- Chunks in groups.
-use Rattle.std.proofs.Common.{◌≡◌, ◌≢◌, ℕ, zero, suc, ◌+◌, ◌*◌, ◌/◌, ◌%◌, ◌<◌, ◌≤◌, List, [], ◌∷◌, ◌++◌, length, get_or, replicate, set, ap, refl, sym, ◌∙◌}
+use Rattle.std.proofs.Common.{◌≡◌, ◌≢◌, ℕ, zero, suc, ◌*◌, ◌/◌, ◌%◌, ◌<◌, ◌≤◌, List, [], ◌∷◌, ◌++◌, length, get_or, replicate, set, ap, refl, sym, ◌∙◌}
 use Rattle.std.proofs.Common.{arith, inl, inr}
 use Rattle.std.proofs.lemmas.List.{ext_get_or, length-set, get_or-set_same, get_or-set_other, get_or_past, get_or_default, length-replicate, get_or-replicate}
 use Rattle.std.proofs.{lemmas.Bool.cases_lt, lemmas.Bool.cases_eq, lemmas.List.FromFn.length-map-range_with_len, lemmas.List.FromFn.get_or-map-range_with_len}
-use Rattle.dma_mem.specs.{Image.put, Image.bytes_at, inner.ChunkTable.chunk_at, inner.ChunkTable.flat, inner.ChunkTable.PutsInChunk}
-use Rattle.dma_mem.proofs.{ImagePut.length_put, ImagePut.get_or_put, BytesPut.lookup_bytes_past}
+use Rattle.dma_mem.specs.inner.ChunkTable.{chunk_at, flat}
 
 -- a list of zeros has a zero at each place, and past its end
 pub zero_at : (n k : ℕ) → get_or {A = ℕ} (replicate n 0) k 0 ≡ 0
 zero_at n k = grind (arith, cases_lt, get_or-replicate, get_or_past, length-replicate)
-
--- bytes that are put into a chunk are laid
-pub laid_put : (chunk : List ℕ) (offset : ℕ) (bs : List ℕ) → offset + length bs ≤ length chunk → PutsInChunk chunk offset bs (put chunk (bytes_at offset bs))
-laid_put chunk offset bs fits = grind (arith, cases_lt, get_or_put, get_or_past, length_put, lookup_bytes_past)
 
 pub length_flat : (groups : List (List (List ℕ))) → length (flat groups) ≡ 256 * length groups
 unfolding flat

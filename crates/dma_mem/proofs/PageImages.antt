@@ -44,11 +44,11 @@ segment_not_made m addr len a low high h =
     list_all_at (is_made m) (range_with_len addr len) i.0 a i.1 (ap (is_made m) i.2 ∙ h)
 
 -- the test of a segment by the flags of its pages, which end with page `end`
-pub made_tested : (flags : List Bool) (m : Paged) (addr len end : ℕ) (r : Bool) → flags ≡ m.made → addr + len ≤ length m.image → addr + len ≤ 4096 * end
-    → 4096 * end < addr + len + 4096 → 0 < len → (r ≡ true → (p : ℕ) → addr / 4096 ≤ p → p < end → get_or flags p false ≡ true)
+pub made_tested : (flags : List Bool) (m : Paged) (addr len end : ℕ) (r : Bool) → flags ≡ m.made → addr + len ≤ length m.image
+    → end ≡ (addr + len + 4095) / 4096 → 0 < len → (r ≡ true → (p : ℕ) → addr / 4096 ≤ p → p < end → get_or flags p false ≡ true)
     → (r ≡ false → (p : ℕ) × (addr / 4096 ≤ p) × (p < end) × (get_or flags p false ≡ false)) → r ≡ list_all (is_made m) (range_with_len addr len)
-made_tested flags m addr len end true seen within last first some all one = grind (arith, segment_made, is_made_from)
-made_tested flags m addr len end false seen within last first some all one =
+made_tested flags m addr len end true seen within last some all one = grind (arith, segment_made, is_made_from)
+made_tested flags m addr len end false seen within last some all one =
     let w = one refl in
     let a : ℕ = max addr (4096 * w.0) in
     let low : addr / 4096 ≤ w.0 = w.1 in

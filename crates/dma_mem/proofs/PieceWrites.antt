@@ -7,7 +7,7 @@ use Rattle.std.proofs.lemmas.List.{length-take-le, get_or-take, get_or-drop, nil
 use Rattle.std.proofs.{Math.Seq.take-append-add, Math.Seq.drop-append-add, Math.Seq.map-set_same, lemmas.Bool.cases_lt}
 use Rattle.dma_mem.specs.Regions.{Piece, end_of, pieces_of, rises_from, in_order, bytes_above, image_of, gaps_above, has}
 use Rattle.dma_mem.specs.inner.Rewritten.{nowhere, piece_at, Holds, Writable, Rewritten, rest_from}
-use Rattle.dma_mem.specs.{declared.regions.Region.Region, declared.segment.Segment.Segment, Image.put, Image.bytes_at, Pages.all_made}
+use Rattle.dma_mem.specs.{declared.regions.Region.Region, declared.segment.Segment.Segment, Image.put, Image.bytes_at}
 use Rattle.dma_mem.proofs.Pieces.{first, no_region, piece_at_of, found, length_bytes_above, image_of_most, has_parts, rest_is, zero_shown}
 use Rattle.dma_mem.proofs.{ImagePut.length_put, BytesPut.put_bytes_at, BytesPut.put_parts, PageImages.put_none}
 
@@ -67,7 +67,8 @@ same_gaps at (p ∷ ps) (suc i) bs l e = ap (λ gaps. record { addr = at; len = 
 -- bytes put into the middle of an image
 pub put_middle : (left old right : List ℕ) (start : ℕ) (bs : List ℕ) → start + length bs ≤ length old
     → left ++ (put old (bytes_at start bs) ++ right) ≡ put (left ++ (old ++ right)) (bytes_at (length left + start) bs)
-put_middle left old right start bs h = grind (arith, length-append, take-append-add, take-append-le, drop-append-add, drop-append-le, put_bytes_at, append_assoc)
+put_middle left old right start bs h =
+    grind (arith, length-append, take-append-add, take-append-le, drop-append-add, drop-append-le, put_bytes_at, append_assoc)
 
 -- the image around a piece
 around : (ps : List Piece) (i : ℕ) (h : in_order ps ≡ true) (l : i < length ps)
@@ -139,10 +140,11 @@ same_segment a b addr access long = grind arith
 
 -- a write to one region is a write to the memory
 pub rewritten_at : (rs : List Region) (i addr : ℕ) (new : Region) (bs : List ℕ) → in_order (pieces_of rs) ≡ true → i < length rs
-    → Holds (pieces_of rs) i addr (length bs) → new.addr ≡ (get_or rs i no_region).addr → new.bytes.ghost_name ≡ (get_or rs i no_region).bytes.ghost_name
-    → new.read_only ≡ (get_or rs i no_region).read_only
-    → new.bytes.now ≡ put (get_or rs i no_region).bytes.now (bytes_at (addr - (get_or rs i no_region).addr) bs) → Rewritten rs (set rs i new) addr bs
-rewritten_at rs i addr new bs order l holds same name access is = grind (arith, piece_at_of, length-map, length_put, map-set, put_piece, same_order, same_gaps, map-set_same, same_segment)
+    → Holds (pieces_of rs) i addr (length bs) → let r = get_or rs i no_region in
+    new.addr ≡ r.addr → new.bytes.ghost_name ≡ r.bytes.ghost_name → new.read_only ≡ r.read_only
+    → new.bytes.now ≡ put r.bytes.now (bytes_at (addr - r.addr) bs) → Rewritten rs (set rs i new) addr bs
+rewritten_at rs i addr new bs order l holds same name access is =
+    grind (arith, piece_at_of, length-map, length_put, map-set, put_piece, same_order, same_gaps, map-set_same, same_segment)
 
 -- what a region has, the image has
 pub region_shown : (rs : List Region) (i a n : ℕ) → in_order (pieces_of rs) ≡ true → i < length rs → Holds (pieces_of rs) i a n
@@ -180,11 +182,6 @@ writable_most rs addr len w = let inside = w.within in omega (arith, image_of_mo
 pub rewritten_length : (old new : List Region) (addr : ℕ) (bs : List ℕ) → Rewritten old new addr bs
     → length (image_of (pieces_of new)) ≡ length (image_of (pieces_of old))
 rewritten_length old new addr bs r = ap length r.image ∙ length_put (image_of (pieces_of old)) (bytes_at addr bs)
-
--- all pages of a memory are made, before a write and after it
-pub rewritten_made : (old new : List Region) (addr : ℕ) (bs : List ℕ) → Rewritten old new addr bs
-    → all_made (length (image_of (pieces_of new))) ≡ all_made (length (image_of (pieces_of old)))
-rewritten_made old new addr bs r = ap all_made (rewritten_length old new addr bs r)
 
 -- the image has as many bytes there
 pub ends_in : (rs : List Region) (i a n : ℕ) → in_order (pieces_of rs) ≡ true → i < length rs → Holds (pieces_of rs) i a n

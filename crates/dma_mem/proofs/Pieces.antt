@@ -46,10 +46,6 @@ pub rises_not : (ps : List Piece) (p : Piece) (i at : ℕ) → i < length ps →
     → rises_from at (drop i ps) ≡ false
 rises_not ps p i at h is bad = grind (arith, drop_at, false_from_ne_true)
 
--- what holds of the piece at an index of pieces that rise from there
-pub first_at : (ps : List Piece) (p : Piece) (i at : ℕ) → i < length ps → piece_at ps i ≡ p → rises_from at (drop i ps) ≡ true → First at p (drop (i + 1) ps)
-first_at ps p i at h is rises = grind (arith, drop_at)
-
 -- ---- the size
 
 -- the address behind the last piece

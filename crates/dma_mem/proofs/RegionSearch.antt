@@ -187,7 +187,8 @@ fails kind r a = nat_lt a r.addr || (bars kind r && nat_lt a (end_of (piece_of r
 
 pub walk_fails : (kind : MarkKind) (rs : List Region) (r : Region) (rest : List Region) (addr end a : ℕ) → Walk kind rs (r ∷ rest) addr end → addr ≤ a → end ≤ a
     → fails kind r a ≡ true → lies_in_any (barred kind (gaps_of (pieces_of rs)) (read_only_of rs)) a ≡ true
-walk_fails kind rs r rest addr end a w low passed e = grind (arith, cases_lt, or_left, in_first_gap, or_cases, nat_lt, ltb-true, and_parts, or_right, and_from, has_from)
+walk_fails kind rs r rest addr end a w low passed e =
+    grind (arith, cases_lt, or_left, in_first_gap, or_cases, nat_lt, ltb-true, and_parts, or_right, and_from, has_from)
 
 -- past a region in which they don't
 pub walk_on : (kind : MarkKind) (rs : List Region) (r : Region) (rest : List Region) (addr end from : ℕ) → Walk kind rs (r ∷ rest) addr end → (from ≡ addr)

@@ -1,6 +1,6 @@
 -- Bytes that are copied region by region.
 use Rattle.std.proofs.Common.{◌≡◌, ℕ, ◌+◌, ◌-◌, inl, inr, List, ◌∷◌, ◌++◌, length, min, take, drop, true, false, refl, ap, sym, ◌∙◌, arith, append_assoc}
-use Rattle.std.proofs.lemmas.List.{length-append, take-append-le, take_all, append-nil}
+use Rattle.std.proofs.lemmas.List.{length-append, length-take, take-append-le, take_all, append-nil}
 use Rattle.std.proofs.{Math.Seq.take-append-add, lemmas.Bool.cases_lt}
 use Rattle.dma_mem.specs.Regions.{Piece, end_of, has, run_from}
 
@@ -25,15 +25,14 @@ take_parts n more xs ys is = elim (cases_lt n (length xs)) [
 -- the bytes so far and those still to be copied, after a piece that has the address was copied as far as there is room
 pub run_copied : (p : Piece) (ps : List Piece) (at past most : ℕ) (bytes part next all : List ℕ) → has at p ≡ true → past ≡ end_of p
     → part ≡ take (min (length (drop (at - p.addr) p.bytes)) (most - length bytes)) (drop (at - p.addr) p.bytes) → next ≡ bytes ++ part
-    → length part ≡ min (length (drop (at - p.addr) p.bytes)) (most - length bytes) → bytes ++ take (most - length bytes) (run_from (p ∷ ps) at) ≡ all
-    → next ++ take (most - length next) (run_from ps past) ≡ all
-run_copied p ps at past most bytes part next all here end is both len so_far =
+    → bytes ++ take (most - length bytes) (run_from (p ∷ ps) at) ≡ all → next ++ take (most - length next) (run_from ps past) ≡ all
+run_copied p ps at past most bytes part next all here end is both so_far =
     let rest = drop (at - p.addr) p.bytes in
     let later = run_from ps (end_of p) in
     let room = most - length bytes in
     let more = min (length rest) room in
     let run : run_from (p ∷ ps) at ≡ rest ++ later = rw here refl in
-    let left : most - length next ≡ room - more = omega (arith, ap length both, length-append bytes part, len) in
+    let left : most - length next ≡ room - more = omega (arith, ap length both, length-append bytes part, ap length is, length-take more rest) in
     ap (λ (k : ℕ). next ++ take (most - length next) (run_from ps k)) end
     ∙ ap (λ (k : ℕ). next ++ take k later) left
     ∙ ap (λ (xs : List ℕ). xs ++ take (room - more) later) (both ∙ ap (λ (xs : List ℕ). bytes ++ xs) is)

@@ -2,7 +2,7 @@
 use Rattle.std.proofs.Common.{arith}
 use Rattle.std.proofs.Common.{◌≡◌, ℕ, Bool, true, not, ◌&&◌, nat_le, nat_lt, if◌then◌else◌, List, [], ◌∷◌, length, refl, ◌∙◌, sym, Option, Some}
 use Rattle.std.proofs.Common.{None, Result, Ok, Err, is_ok, is_some}
-use Rattle.std.specs.{Option.ok_or, Option.option_or}
+use Rattle.std.specs.{Option.ok_or}
 use Rattle.dma_mem.specs.Limits.{last_channel}
 use Rattle.dma_script.specs.Arguments.{first_reported, makes, meaning, Operand, operands, Shape, unless, where_not, words_cause}
 use Rattle.dma_script.specs.Plan.{transfer, transfer_line, plan_step}
@@ -14,7 +14,7 @@ use Rattle.dma_script.specs.{Lines.after_line, declared.fault.Cause.Cause}
 use Rattle.dma_script.specs.{declared.transfer_line.TransferLine.TransferLine, declared.statements.Keyword.Keyword, declared.statements.RunScript.RunScript}
 use Rattle.dma_script.specs.{declared.statements.Statement.Statement, declared.race.JobLine.JobLine, declared.race.RaceKeyword.RaceKeyword}
 use Rattle.dma_text.specs.Results.{◌>>=◌}
-use Rattle.dma_script.proofs.Agreement.{map_reported, meaning_reported, or_none}
+use Rattle.dma_script.proofs.{Agreement.map_reported, Agreement.meaning_reported, Agreement.or_none, Reading.job_of}
 use Rattle.dma_script.specs.declared.fault.Cause.TheVariants as causes
 use Rattle.dma_script.specs.declared.race.RaceKeyword.TheVariants as race_keywords
 
@@ -97,18 +97,10 @@ early_reported : {B : Type 0} (early : Bool) (r : Result (Option RunScript) Caus
 early_reported early r f rest h = grind (arith, map_reported)
 
 -- a job, one too many or not
-fits_tests : {B : Type 0} (fits few : Bool) (found : JobLine) (f : JobLine → B)
-    → cause_reported ((where_holds fits causes.Range >>= (λ in_range. Ok found)) >>= (λ job. where_holds few causes.Range >>= (λ few. Ok (f job)))) ≡ option_or
-    (where_not (fits && few) causes.Range) None
-fits_tests fits few found f = grind (arith)
-
 job_tests : {B : Type 0} (cause : Option Cause) (few : Bool) (found : JobLine) (f : JobLine → B)
-    → let in_range = nat_le found.first found.last && nat_le found.last last_channel in
-    cause_reported (((unless cause >>= (λ none. Ok found)) >>=
-    (λ job. where_holds (nat_le job.first job.last && nat_le job.last last_channel) causes.Range >>= (λ in_range. Ok job))) >>=
-    (λ job. where_holds few causes.Range >>= (λ few. Ok (f job))))
-    ≡ option_or cause (option_or (where_not (in_range && few) causes.Range) None)
-job_tests cause few found f = grind (arith, fits_tests, nat_le)
+    → cause_reported (((unless cause >>= (λ none. Ok found)) >>= job_of) >>= (λ job. where_holds few causes.Range >>= (λ few. Ok (f job)))) ≡ first_reported
+    (cause ∷ where_not ((nat_le found.first found.last && nat_le found.last last_channel) && few) causes.Range ∷ [])
+job_tests cause few found f = grind (arith)
 
 job_words : {B : Type 0} (words : List (List ℕ)) (few : Bool) (f : JobLine → B)
     → cause_reported (job_line words >>= (λ job. where_holds few causes.Range >>= (λ few. Ok (f job)))) ≡ first_reported

@@ -27,31 +27,30 @@ one_line : {S B : Type 0} (n : ℕ) (r : Result S Cause) (f : S → Result S Fau
     → fault_reported ((at_line n r >>= f) >>= end) ≡ option_or (option_or (option_map (fault_in n) test) rest) at_end
 one_line n r f end test rest at_end h h2 = grind (arith)
 
--- A reader whose report on a line depends on the position in the script. `goes`: what it has read keeps a property, and
--- its position after a line is that which the position before it and the line give. `at_end`: the fault at the end of
--- the script, by the position and the lines that are left.
-record IsReader
+module _
     {S K B : Type 0} (step : S → List (List ℕ) → Result S Cause) (side : S → K) (test : K → List ℕ → Option Cause) (after : K → List ℕ → K)
     (Keeps : S → Type 0) (end : S → Result B Fault) (at_end : K → List (List ℕ) → Option Fault)
-    : Type 0 where
-  reports : (read : S) (line : List ℕ) → cause_reported (after_line step read line) ≡ test (side read) line
-  goes : (read : S) (line : List ℕ) → Keeps read → IfOk (after_line step read line) (λ next. (side next ≡ after (side read) line) × Keeps next)
-  ends : (read : S) → Keeps read → fault_reported (end read) ≡ at_end (side read) []
-  more : (k : K) (line : List ℕ) (rest : List (List ℕ)) → at_end (after k line) rest ≡ at_end k (line ∷ rest)
+  where
+    -- A reader whose report on a line depends on the position in the script. `goes`: what it has read keeps a property, and
+    -- its position after a line is that which the position before it and the line give. `at_end`: the fault at the end of
+    -- the script, by the position and the lines that are left.
+    record IsReader : Type 0 where
+      reports : (read : S) (line : List ℕ) → cause_reported (after_line step read line) ≡ test (side read) line
+      goes : (read : S) (line : List ℕ) → Keeps read → IfOk (after_line step read line) (λ next. (side next ≡ after (side read) line) × Keeps next)
+      ends : (read : S) → Keeps read → fault_reported (end read) ≡ at_end (side read) []
+      more : (k : K) (line : List ℕ) (rest : List (List ℕ)) → at_end (after k line) rest ≡ at_end k (line ∷ rest)
 
--- The fault of some lines and the end behind them.
-lines_reported : {S K B : Type 0} (step : S → List (List ℕ) → Result S Cause) (side : S → K) (test : K → List ℕ → Option Cause) (after : K → List ℕ → K)
-    (Keeps : S → Type 0) (end : S → Result B Fault) (at_end : K → List (List ℕ) → Option Fault) → IsReader step side test after Keeps end at_end
-    → (n : ℕ) (read : S) (rest : List (List ℕ)) → Keeps read
-    → fault_reported (after_lines step n read rest >>= end) ≡ option_or (first_fault test after (side read) n rest) (at_end (side read) rest)
-lines_reported step side test after Keeps end at_end is n read [] keeps = is.ends read keeps
-lines_reported step side test after Keeps end at_end is n read (line ∷ rest) keeps =
-    one_line (n + 1) (after_line step read line) (λ next. after_lines step (n + 1) next rest) end (test (side read) line)
-    (first_fault test after (after (side read) line) (n + 1) rest) (at_end (side read) (line ∷ rest)) (is.reports read line)
-    (IfOk-weaker (after_line step read line) (λ next. (side next ≡ after (side read) line) × Keeps next) _ (λ next at.
-    lines_reported step side test after Keeps end at_end is (n + 1) next rest at.1
-    ∙ ap (λ k. option_or (first_fault test after k (n + 1) rest) (at_end k rest)) at.0
-    ∙ ap (option_or (first_fault test after (after (side read) line) (n + 1) rest)) (is.more (side read) line rest)) (is.goes read line keeps))
+    -- The fault of some lines and the end behind them.
+    lines_reported : IsReader → (n : ℕ) (read : S) (rest : List (List ℕ)) → Keeps read
+        → fault_reported (after_lines step n read rest >>= end) ≡ option_or (first_fault test after (side read) n rest) (at_end (side read) rest)
+    lines_reported is n read [] keeps = is.ends read keeps
+    lines_reported is n read (line ∷ rest) keeps =
+        one_line (n + 1) (after_line step read line) (λ next. after_lines step (n + 1) next rest) end (test (side read) line)
+        (first_fault test after (after (side read) line) (n + 1) rest) (at_end (side read) (line ∷ rest)) (is.reports read line)
+        (IfOk-weaker (after_line step read line) (λ next. (side next ≡ after (side read) line) × Keeps next) _ (λ next at.
+        lines_reported is (n + 1) next rest at.1
+        ∙ ap (λ k. option_or (first_fault test after k (n + 1) rest) (at_end k rest)) at.0
+        ∙ ap (option_or (first_fault test after (after (side read) line) (n + 1) rest)) (is.more (side read) line rest)) (is.goes read line keeps))
 
 abbrev IsSome : {A : Type 0} → Option A → Type 0
 IsSome next = is_some next ≡ true

@@ -20,7 +20,8 @@ acts_more : {S L : Type 0} (acts : S → L → List (List ℕ) → S → Type 0)
 acts_more acts [] line found between left [] group done act = (left, subst (λ s. acts s line group left) done act, refl)
 acts_more acts [] line found between left (g ∷ groups) group done act = absurd done
 acts_more acts (l ∷ lines) line found between left [] group done act = absurd done
-acts_more acts (l ∷ lines) line found between left (g ∷ groups) group done act = grind (arith, acts_more acts lines line done.0 between left groups group done.2 act)
+acts_more acts (l ∷ lines) line found between left (g ∷ groups) group done act =
+    grind (arith, acts_more acts lines line done.0 between left groups group done.2 act)
 
 -- no line has run yet
 pub prints_none : {S L : Type 0} (acts : S → L → List (List ℕ) → S → Type 0) (found : S) (old : List ℕ) → PrintsLines {L = L} acts found [] found old old

@@ -52,17 +52,18 @@ pub statement_read : (keyword : Keyword) (words : List (List ℕ)) (before after
     → line_added keyword before words ≡ (done >>= (λ u. Ok after))
 statement_read keyword words before after line done e is = added_read (statement keyword) words before after line done e is
 
--- A script and the line that was added to it.
-script_added : (script : RunScript) (after : List Statement) (read : Result Statement Cause) (result : Result (Unit {0}) (ReadError Cause))
-    → Gives (λ _. after) result (read >>= (λ statement. Ok (script.statements ++ statement ∷ [])))
-    → Gives (λ _. Some (record script { statements = after })) result
-    (read >>= (λ statement. Ok (Some (record script { statements = script.statements ++ statement ∷ [] }))))
-script_added script after read result h = grind (arith)
+-- What a result gives is also given with a function applied to it.
+gives_applied : {A B F X Y : Type 0} (f : X → Y) (made : A → X) (after : X) (read : Result A F) (result : Result B (ReadError F))
+    → Gives (λ _. after) result (read >>= (λ a. Ok (made a))) → Gives (λ _. f after) result (read >>= (λ a. Ok (f (made a))))
+gives_applied f made after read result h = grind (arith)
 
+-- A script and the line that was added to it.
 pub script_given : (keyword : Keyword) (words : List (List ℕ)) (script : RunScript) (after : List Statement) (result : Result (Unit {0}) (ReadError Cause))
     → Gives (λ _. after) result (line_added keyword script.statements words)
     → Gives (λ _. Some (record script { statements = after })) result (next_line (Some script) keyword words)
-script_given keyword words script after result gives = script_added script after (later_line keyword words) result gives
+script_given keyword words script after result gives =
+    gives_applied (λ after. Some (record script { statements = after })) (λ statement. script.statements ++ statement ∷ []) after
+    (later_line keyword words) result gives
 
 -- a script of a size and channels
 abbrev pub script_of : ℕ → ℕ → RunScript

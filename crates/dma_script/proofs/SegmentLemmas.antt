@@ -66,7 +66,8 @@ stop_at base stop ds i value some within here small =
 
 pub stop_first : (base stop : ℕ) (ds : List ℕ) (i value : ℕ) → i ≡ 0 → i < length ds → get_or ds i 0 ≡ stop → digits_at base stop ds i value ≡ None
 stop_first base stop ds i value first within here =
-    at_drop_more (digits_before base stop (nat_lt 0 i) value) ds i 0 within ∙ rw (first, eq-eqb (get_or ds 0 0) stop (subst (λ k. get_or ds k 0 ≡ stop) first here)) refl
+    at_drop_more (digits_before base stop (nat_lt 0 i) value) ds i 0 within
+    ∙ rw (first, eq-eqb (get_or ds 0 0) stop (subst (λ k. get_or ds k 0 ≡ stop) first here)) refl
 
 pub other_at : (base stop : ℕ) (ds : List ℕ) (i value : ℕ) → i < length ds → (get_or ds i 0 ≡ stop → ⊥) → base ≤ digit_value (get_or ds i 0)
     → digits_at base stop ds i value ≡ None
@@ -106,7 +107,8 @@ hex_before stop (a ∷ b ∷ ds) other hex =
 
 -- It is read by its base.
 pub number_is : (stop : ℕ) (word : List ℕ) → digit_value stop ≡ 36
-    → number_before stop word ≡ cond (starts_with nat_eq word (48 ∷ 120 ∷ [])) (digits_before 16 stop false 0 (drop 2 word)) (digits_before 10 stop false 0 word)
+    → number_before stop word ≡ cond (starts_with nat_eq word (48 ∷ 120 ∷ []))
+    (digits_before 16 stop false 0 (drop 2 word)) (digits_before 10 stop false 0 word)
 number_is stop word other = grind (arith, nat_eq, hex_before, prefix_no)
 
 -- The number of a word that has no separator.

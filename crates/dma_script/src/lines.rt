@@ -5,7 +5,7 @@ ghost use Rattle.dma_script.specs.Lines.{Gives, after_line, after_script, first_
 ghost use Rattle.dma_script.specs.Words.{is_plain, words_of};
 
 use crate::fault::{Cause, Fault, LineError, ScriptError};
-use crate::words::{is_plain_line, is_plain_text, split_line, without_blanks};
+use crate::words::{is_plain_line, is_plain_text, split_script_line, without_blanks};
 use std::alloc::Global;
 
 /// A kind of script: the part of it that was read so far.
@@ -72,7 +72,7 @@ pub fn read_script<S: Script>(
     let mut rest = input;
     let mut number = 0usize;
     while !rest.is_empty() {
-        let (line, after) = split_line(rest);
+        let (line, after) = split_script_line(rest);
         number += 1;
         match read_line(script, alloc, plain, line) {
             Ok(()) => rest = after,
@@ -96,7 +96,7 @@ pub fn first_number(input: &[u8]) -> usize
     let mut rest = input;
     let mut number = 1usize;
     while !rest.is_empty() {
-        let (line, after) = split_line(rest);
+        let (line, after) = split_script_line(rest);
         if !is_skipped(line) {
             return number;
         }

@@ -47,7 +47,7 @@ fn line_end(input: &[u8]) -> Option<usize>
 /// Returns the first line, without its line feed and a carriage return before that, and the rest of the input. A last
 /// line without a line feed keeps its carriage return.
 #[inline(always)]
-pub fn split_line(input: &[u8]) -> (&[u8], &[u8])
+pub fn split_script_line(input: &[u8]) -> (&[u8], &[u8])
     requires { 0 < length input.now }
     ensures first { lines input.now ≡ result.0.now ∷ lines result.1.now }
     ensures shorter { length result.1.now < length input.now }

@@ -14,3 +14,6 @@ begins_appended old new more is = record { front_is = ap (take (length old)) is 
 -- one more part was appended
 pub begins_more : (old middle new : List ℕ) → Begins middle old → Begins new middle → Begins new old
 begins_more old middle new first more = grind (arith, length-take, take-take)
+
+-- why one list begins another
+pub ruleset begun = (begins_same, begins_appended, begins_more)

@@ -1,7 +1,7 @@
 -- The chunks behind an image: groups of 256 chunks of 16,384 bytes, which is four pages each.
 use Rattle.std.specs.Prelude.{◌≡◌, ◌≢◌, ℕ, ◌*◌, ◌/◌, ◌%◌, ◌+◌, ◌<◌, ◌≤◌, Bool, true, false, nat_eq, nat_lt, ◌&&◌, if◌then◌else◌, List, [], length, map}
-use Rattle.std.specs.Prelude.{replicate, slice_index, slice_index_or, unwrap_or}
-use Rattle.std.specs.{List.range_with_len, Map.lookup}
+use Rattle.std.specs.Prelude.{replicate, slice_index, slice_index_or}
+use Rattle.std.specs.List.{range_with_len}
 use Rattle.dma_mem.specs.{Image.put, Image.bytes_at, Pages.Paged, Pages.page_size}
 
 -- how many bytes a chunk has
@@ -55,11 +55,6 @@ RangeMade chunks start end = (a : ℕ) → start ≤ a → a < end → 0 < lengt
 -- The chunk of an address from `start` up to, but not including, `end` isn't made.
 abbrev pub RangeMissing : List (List ℕ) → ℕ → ℕ → Type 0
 RangeMissing chunks start end = (a : ℕ) × (start ≤ a) × (a < end) × (length (chunk_of chunks a) ≡ 0)
-
--- The chunk `new` has the bytes of `old` with these put from an offset on. Past the end of a chunk all bytes are zero.
-abbrev pub PutsInChunk : List ℕ → ℕ → List ℕ → List ℕ → Type 0
-PutsInChunk old offset bytes new =
-    (k : ℕ) → slice_index new k ≡ unwrap_or (lookup (nat_eq k) (bytes_at offset bytes)) (slice_index old k)
 
 -- how many chunks are in one group of the table
 abbrev pub group_size : ℕ

@@ -35,8 +35,7 @@ loop-region-preserved c =
             room = omega (arith, larger, c.loop-region.invariant.room);
             keeps = omega (arith, larger, c.loop-region.invariant.keeps);
             copied = run_copied (piece_of r) (pieces_of rest) at c.if-has.at most bytes part c.if-has.bytes.items all here (w.at-is ∙ w.end-at.ensures)
-                (ap (λ (k : ℕ). take k found) cut ∙ ap (λ (xs : List ℕ). take (min (length xs) (most - length bytes)) xs) w.rest_from-rest.ensures) both
-                (long ∙ cut ∙ ap (λ (xs : List ℕ). min (length xs) (most - length bytes)) w.rest_from-rest.ensures) so_far;
+                (ap (λ (k : ℕ). take k found) cut ∙ ap (λ (xs : List ℕ). take (min (length xs) (most - length bytes)) xs) w.rest_from-rest.ensures) both so_far;
           }
       | else-has w ↦
           let no : has at (piece_of r) ≡ false = sym c.has.ensures ∙ w.if-has.false in

@@ -23,10 +23,13 @@ returns c =
     let n = c.args.to / 16384 in
     let offset = c.args.to % 16384 in
     let chunk = c.if-from-number.chunk in
+    let group = c.index_mut.result.now in
+    let group_is = c.index_mut.ensures.value in
     let found : c.replace-chunk.result ≡ chunk_at old n = c.replace-chunk.ensures.old
-    ∙ chunk_in_group groups old n c.index_mut.result.now c.self.view_is c.requires.made c.index_mut.ensures.value in
-    let change = put_back groups old n c.index_mut.result.now c.replace-chunk.new.self c.index_mut-2.result.now c.replace.new.self c.new-empty.result chunk
-    c.self.view_is c.requires.made c.index_mut.ensures.value c.replace-chunk.ensures.new c.index_mut-2.ensures.value c.replace.ensures.new in
+    ∙ chunk_in_group groups old n group c.self.view_is c.requires.made group_is in
+    let rest = replaced groups old n group c.self.view_is c.requires.made group_is _ c.new-empty.result c.replace-chunk.ensures.new in
+    let change = put_back groups old n group c.self.view_is c.requires.made group_is _ c.index_mut-2.result.now _ _ chunk c.replace-chunk.ensures.new
+    c.index_mut-2.ensures.value c.replace.ensures.new in
     let copy : HasCopy old from c.args.to len chunk = elim c.if-from-number.branch [
       | then-from-number w ↦
           let whole = w.copy_apart.ensures.whole in
@@ -35,8 +38,6 @@ returns c =
           rw w.chunk-is (has_copy old from c.args.to len (chunk_at old n) w.copy_apart.new.self (sym kept ∙ whole)
           (λ k. ap (λ p. get_or (chunk_at old p) k 0) (sym w.if-from-number.true)) c.requires.source whole kept is)
       | else-from-number+then-is_empty w ↦
-          let rest = replaced groups old n c.index_mut.result.now c.replace-chunk.new.self c.new-empty.result c.self.view_is c.requires.made
-          c.index_mut.ensures.value c.replace-chunk.ensures.new in
           let none : length (chunk_at old (from / 16384)) ≡ 0 =
           ap length (sym (w.chunk-source.ensures.bytes ∙ rest.others (from / 16384) w.if-from-number.false))
           ∙ eqb-true (length w.chunk-source.result.now) 0 (sym w.is_empty.ensures ∙ w.if-is_empty.true) in
@@ -52,8 +53,6 @@ returns c =
           let source = w.chunk-source.result.now in
           let not_none = eqb-false (length source) 0 (sym w.is_empty.ensures ∙ w.if-is_empty.false) in
           let some : 0 < length source = omega (arith, not_none) in
-          let rest = replaced groups old n c.index_mut.result.now c.replace-chunk.new.self c.new-empty.result c.self.view_is c.requires.made
-          c.index_mut.ensures.value c.replace-chunk.ensures.new in
           let bytes : (k : ℕ) → get_or source k 0 ≡ get_or (chunk_at old (from / 16384)) k 0 =
           λ k. ap (λ (xs : List ℕ). get_or xs k 0) (w.chunk-source.ensures.bytes ∙ rest.others (from / 16384) w.if-from-number.false) in
           let count : (from % 16384 + len) - from % 16384 ≡ len = omega arith in
