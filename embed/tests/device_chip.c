@@ -207,7 +207,7 @@ static void keeps_its_registers(void)
     allocations_left = 0;
     memcpy(byte_at(m.wanted, TO), byte_at(m.bytes, FROM), 80);
     check(!run(&m, 1) && is_ram_wanted(&m) && get(&m, FTR + 4) == 0,
-          "five turns of a loop that the first one began", 0);
+          "five rounds of a loop that the first one began", 0);
     check(get(&m, SAR + 0x20) == FROM + 80 && get(&m, DAR + 0x20) == TO + 80 && get(&m, LC0 + 0x20) == 0,
           "and moves on", 0);
     check(get(&m, LC1 + 0x20) == 9 && get(&m, SAR) == 0 && get(&m, CCR) == RESET_CCR, "other registers", 0);

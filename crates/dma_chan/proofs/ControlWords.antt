@@ -7,7 +7,7 @@ use Rattle.std.proofs.Math.Nat.{add-mod-mod, mod-one, mul-mod_left, zero-mod}
 use Rattle.dma_insn.specs.declared.control.BeatSize.{BeatSize}
 use Rattle.dma_insn.specs.declared.control.BeatSize.TheVariants.{One, Two, Four, Eight, Sixteen}
 use Rattle.dma_insn.specs.ControlWord.{control_of, is_control, end_at, size_code, size_of, beat_bytes, bits_of, end_bits}
-use Rattle.dma_chan.specs.Compiled.{beat_of, control_word, burst_end, fits}
+use Rattle.dma_chan.specs.Compiled.{beat_of, control_word, burst_end, beats_fit}
 use Rattle.dma_chan.specs.Bursts.{IsAligned, burst_at, burst_len, span_of, touched, advance}
 use Rattle.dma_chan.specs.{declared.bus.Bus.Bus, declared.bus.Bus.TheVariants.Ideal, Bus.accepts}
 use Rattle.dma_chan.specs.{Bus.widest_beat, declared.pieces.Piece.Piece, declared.bursts.Burst.Burst, Traffic.len_by, inner.Spans.MovesSome}
@@ -204,7 +204,7 @@ pub record Divides (bus : Bus) (p : Piece) (b : ℕ) : Type 0 where
   pub src : p.src % b ≡ 0
   pub dst : p.dst % b ≡ 0
 
-fits_divides : (bus : Bus) (b : ℕ) (p : Piece) → fits bus b p ≡ true → Divides bus p b
+fits_divides : (bus : Bus) (b : ℕ) (p : Piece) → beats_fit bus b p ≡ true → Divides bus p b
 fits_divides bus b p e = grind (arith, and_parts, leb-true, eqb-true)
 
 pub some_beat : (bus : Bus) → 1 ≤ widest_beat bus
@@ -218,10 +218,10 @@ unfolding beat_of
 beat_divides bus p =
     let divides = λ (size : BeatSize). Divides bus p (beat_bytes size) in
     cond_both p.fill One _ divides (λ _. ones bus p) (λ _.
-    cond_both (fits bus 16 p) Sixteen _ divides (fits_divides bus 16 p) (λ _.
-    cond_both (fits bus 8 p) Eight _ divides (fits_divides bus 8 p) (λ _.
-    cond_both (fits bus 4 p) Four _ divides (fits_divides bus 4 p) (λ _.
-    cond_both (fits bus 2 p) Two One divides (fits_divides bus 2 p) (λ _. ones bus p)))))
+    cond_both (beats_fit bus 16 p) Sixteen _ divides (fits_divides bus 16 p) (λ _.
+    cond_both (beats_fit bus 8 p) Eight _ divides (fits_divides bus 8 p) (λ _.
+    cond_both (beats_fit bus 4 p) Four _ divides (fits_divides bus 4 p) (λ _.
+    cond_both (beats_fit bus 2 p) Two One divides (fits_divides bus 2 p) (λ _. ones bus p)))))
 
 pub one_beat : (fill : Bool) → IsBeat fill One
 one_beat true = filling_beat

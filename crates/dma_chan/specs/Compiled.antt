@@ -48,16 +48,16 @@ pieces_of t = if t.fill then fill_pieces t.src t.dst else pieces t.src t.dst
 
 -- whether beats of b bytes fit a bus and a piece: b is no wider than the bus, divides both addresses and is at most the
 -- piece's length
-abbrev pub fits : Bus → ℕ → Piece → Bool
-fits bus b p = nat_le b (widest_beat bus) && p.src % b == 0 && p.dst % b == 0 && nat_le b p.len
+abbrev pub beats_fit : Bus → ℕ → Piece → Bool
+beats_fit bus b p = nat_le b (widest_beat bus) && p.src % b == 0 && p.dst % b == 0 && nat_le b p.len
 
 -- the size of a piece's beats on a bus: the largest of 16, 8, 4, 2 and 1 bytes that fits, and in a fill 1
 unfoldable pub beat_of : Bus → Piece → BeatSize
 beat_of bus p =
     if p.fill then sizes.One else (
-    if fits bus 16 p then sizes.Sixteen else (
-    if fits bus 8 p then sizes.Eight else (
-    if fits bus 4 p then sizes.Four else (if fits bus 2 p then sizes.Two else sizes.One))))
+    if beats_fit bus 16 p then sizes.Sixteen else (
+    if beats_fit bus 8 p then sizes.Eight else (
+    if beats_fit bus 4 p then sizes.Four else (if beats_fit bus 2 p then sizes.Two else sizes.One))))
 
 -- one end of bursts of k beats of this size, whose address increments or not
 abbrev pub burst_end : Bool → BeatSize → ℕ → BurstEnd

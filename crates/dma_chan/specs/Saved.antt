@@ -41,11 +41,15 @@ pub record IsChannelValue (c : ChannelValue) : Type 0 where
 
 -- ---- the checksum
 
--- Adler-32 (RFC 1950), continued from two sums modulo 65,521: `low` is the sum of the bytes, and `high` is the sum of
--- all values of `low`.
+-- the largest prime below 2 ^ 16
+abbrev pub adler_prime : ℕ
+adler_prime = 65521
+
+-- Adler-32 (RFC 1950), continued from two sums modulo that prime: `low` is the sum of the bytes, and `high` is the sum
+-- of all values of `low`.
 unfoldable pub adler : ℕ → ℕ → List ℕ → ℕ
 adler low high [] = high * 65536 + low
-adler low high (b ∷ bs) = let next = (low + b) % 65521 in adler next ((high + next) % 65521) bs
+adler low high (b ∷ bs) = let next = (low + b) % adler_prime in adler next ((high + next) % adler_prime) bs
 
 -- the Adler-32 checksum of bytes
 unfoldable pub checksum : List ℕ → ℕ

@@ -5,7 +5,7 @@ ghost use Rattle.dma_insn.specs.Chip.{spelling};
 ghost use Rattle.dma_insn.specs.ControlWord.{beat_bytes};
 ghost use Rattle.dma_chan.specs.Tree.{Repeat};
 ghost use Rattle.dma_chan.specs.inner.Compiling.{Appends, cost_of, word_of};
-ghost use Rattle.dma_chan.specs.Compiled.{where_some, body, bursts, under, fits, beat_of, parts, piece_tree, wait_tree, signal_tree};
+ghost use Rattle.dma_chan.specs.Compiled.{where_some, body, bursts, under, beats_fit, beat_of, parts, piece_tree, wait_tree, signal_tree};
 ghost use Rattle.dma_chan.specs.Compiled.{tree_on, cost, cost_on, compiled, compiled_on, pieces_of, most_compiled};
 ghost use Rattle.dma_mem.specs.Limits.{last_event};
 ghost use Rattle.dma_mem.specs.Rules.{IsTransfer};
@@ -206,20 +206,20 @@ fn push_bursts(code: &mut Vec<u8>, count: u32)
     push_rest(code, (count % 256) as u16);
 }
 
-// Appends `turns` rounds of 256 bursts as nested loops, or nothing if `turns` is 0.
+// Appends nested loops of `rounds` times 256 bursts, or nothing if `rounds` is 0.
 #[tactic(auto, using(crate::proofs::PieceCode::where_some_there, crate::proofs::PieceCode::where_some_none))]
-fn push_nested_loop(code: &mut Vec<u8>, turns: u16)
-    requires turns { turns ≤ 256 }
+fn push_nested_loop(code: &mut Vec<u8>, rounds: u16)
+    requires rounds { rounds ≤ 256 }
     requires room { length code.old.items + 12 ≤ vec_capacity code.old }
     ensures bytes { Appends code.old.items code.new.items
-        (where_some turns (Repeat Counter.Lc0 turns (Repeat Counter.Lc1 256 body))) }
+        (where_some rounds (Repeat Counter.Lc0 rounds (Repeat Counter.Lc1 256 body))) }
     ensures most { length code.new.items ≤ length code.old.items + 12 }
     ensures capacity { vec_capacity code.new ≡ vec_capacity code.old }
 {
-    if turns == 0 {
+    if rounds == 0 {
         return;
     }
-    let times = Times::of_number(turns);
+    let times = Times::of_number(rounds);
     let counter = Counter::Lc0;
     push(code, ChipInsn::Lp { counter, times });
     push_loop(code, 256);
@@ -243,16 +243,16 @@ fn push_rest(code: &mut Vec<u8>, rest: u16)
 }
 
 // Appends a loop around one burst.
-fn push_loop(code: &mut Vec<u8>, turns: u16)
-    requires low { 1 ≤ turns }
-    requires high { turns ≤ 256 }
+fn push_loop(code: &mut Vec<u8>, rounds: u16)
+    requires low { 1 ≤ rounds }
+    requires high { rounds ≤ 256 }
     requires room { length code.old.items + 8 ≤ vec_capacity code.old }
     ensures bytes { Appends code.old.items code.new.items
-        (Repeat Counter.Lc1 turns body) }
+        (Repeat Counter.Lc1 rounds body) }
     ensures most { length code.new.items ≤ length code.old.items + 8 }
     ensures capacity { vec_capacity code.new ≡ vec_capacity code.old }
 {
-    let times = Times::of_number(turns);
+    let times = Times::of_number(rounds);
     let counter = Counter::Lc1;
     push(code, ChipInsn::Lp { counter, times });
     push_body(code);
@@ -305,8 +305,8 @@ fn push(code: &mut Vec<u8>, insn: ChipInsn)
 }
 
 // Returns whether beats of this size fit a bus and a piece.
-fn fits(bus: Bus, size: BeatSize, piece: Piece) -> bool
-    ensures { result ≡ fits bus (beat_bytes size) piece }
+fn beats_fit(bus: Bus, size: BeatSize, piece: Piece) -> bool
+    ensures { result ≡ beats_fit bus (beat_bytes size) piece }
 {
     let beat = size.bytes();
     beat <= bus.widest_beat() && piece.src % beat == 0 && piece.dst % beat == 0 && beat <= piece.len
@@ -319,13 +319,13 @@ fn beat_of(bus: Bus, piece: Piece) -> BeatSize
 {
     if piece.fill {
         BeatSize::One
-    } else if fits(bus, BeatSize::Sixteen, piece) {
+    } else if beats_fit(bus, BeatSize::Sixteen, piece) {
         BeatSize::Sixteen
-    } else if fits(bus, BeatSize::Eight, piece) {
+    } else if beats_fit(bus, BeatSize::Eight, piece) {
         BeatSize::Eight
-    } else if fits(bus, BeatSize::Four, piece) {
+    } else if beats_fit(bus, BeatSize::Four, piece) {
         BeatSize::Four
-    } else if fits(bus, BeatSize::Two, piece) {
+    } else if beats_fit(bus, BeatSize::Two, piece) {
         BeatSize::Two
     } else {
         BeatSize::One

@@ -43,6 +43,9 @@ fn push(out: &mut SaveBytes, bytes: &[u8])
     };
 }
 
+// The largest prime below 2^16, which is the modulus of Adler-32.
+const ADLER_PRIME: u32 = 65521;
+
 /// Returns the checksum of these bytes.
 pub fn checksum_of(bytes: &[u8]) -> u32
     ensures { result ≡ checksum bytes.now }
@@ -50,8 +53,8 @@ pub fn checksum_of(bytes: &[u8]) -> u32
     let mut low = 1u32;
     let mut high = 0u32;
     for byte in bytes {
-        low = (low + u32::from(*byte)) % 65521;
-        high = (high + low) % 65521;
+        low = (low + u32::from(*byte)) % ADLER_PRIME;
+        high = (high + low) % ADLER_PRIME;
     }
     high * 65536 + low
 }

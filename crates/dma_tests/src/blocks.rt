@@ -14,7 +14,7 @@ use std::test::Fail;
 static LOOP: &[u8] =
     b"\xbc\0\x11\0\0\0\xbc\x02\x81\0\0\0\xbc\x01\x31\x40\x0c\0\x22\x03\x04\x12\x08\x13\x3c\x04\0";
 
-// Copies 512 bytes from 0x11 to 0x811 by two turns of an outer loop, each with 256 turns of an inner one.
+// Copies 512 bytes from 0x11 to 0x811 by two rounds of an outer loop, each with 256 rounds of an inner one.
 static NEST: &[u8] =
     b"\xbc\0\x11\0\0\0\xbc\x02\x11\x08\0\0\xbc\x01\x01\x40\0\0\x20\x01\x22\xff\x04\x12\x08\x13\x3c\x04\x38\x08\0";
 

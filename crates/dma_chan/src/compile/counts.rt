@@ -12,6 +12,10 @@ use crate::pieces::{Piece, Pieces};
 use dma_insn::control::BeatSize;
 use dma_mem::transfer::Transfer;
 
+// How many instructions a round of the outer of two loops executes: the DMALP of the inner loop, 5 for each of its 256
+// bursts, and the DMALPEND of the outer loop.
+const PER_ROUND: u32 = 1282;
+
 // Returns how many instructions a transfer's program for a bus executes.
 #[tactic(auto, using(crate::proofs::TreeCosts::cost_of_tree, crate::proofs::TreeCosts::cost_counted, crate::proofs::TreeCosts::cost_below))]
 pub(super) fn cost_on(bus: Bus, transfer: &Transfer) -> u32
@@ -100,9 +104,13 @@ fn whole_bursts_cost(count: u32) -> u32
     if count == 0 {
         return 0;
     }
-    let turns = count / 256;
+    let rounds = count / 256;
     let rest = count % 256;
-    let nested = if turns == 0 { 0 } else { 1 + turns * 1282 };
+    let nested = if rounds == 0 {
+        0
+    } else {
+        1 + rounds * PER_ROUND
+    };
     let single = if rest == 0 { 0 } else { 1 + rest * 5 };
     1 + nested + single
 }

@@ -117,7 +117,7 @@ impl Head {
     }
 
     // Returns whether this can be the head of a save of `len` bytes.
-    fn fits(&self, len: usize) -> bool
+    fn has_size(&self, len: usize) -> bool
         ensures { IsTrue result ↔ FitsIn len self.now }
     {
         let program_len = usize::from(self.program_len);
@@ -166,7 +166,7 @@ impl Head {
         let Some(head) = Head::read(save, bus) else {
             return None;
         };
-        if !head.fits(save.len()) {
+        if !head.has_size(save.len()) {
             return None;
         }
         let again = write(&head, head.buffer_of(save), head.program_of(save));

@@ -54,21 +54,21 @@ returns-in-Err-prepare-clause-others g c =
 
 pub returns-in-Waiting-clause-others : goal.returns-in-Waiting-clause-others
 returns-in-Waiting-clause-others g c =
-    made_past c.args.limit (ends.Waiting c.in-Waiting.event) (g.M.Ram.paged c.args.memory.now) (g.M.Ram.paged c.loop-turn.memory)
-    (g.M.Ram.paged c.prepare.new.memory) (g.M.Ram.paged c.execute.new.memory) c.loop-turn.invariant.run c.loop-turn.invariant.made c.prepare.ensures.others
-    c.execute.ensures.step.pages (omega arith)
+    made_past (g.M.Ram.paged c.args.memory.now) (g.M.Ram.paged c.loop-turn.memory) (g.M.Ram.paged c.prepare.new.memory) (g.M.Ram.paged c.execute.new.memory)
+    c.loop-turn.invariant.run c.loop-turn.invariant.made c.prepare.ensures.others c.execute.ensures.step.pages c.args.limit (ends.Waiting c.in-Waiting.event)
+    (omega arith)
 
 pub returns-in-Ended-clause-others : goal.returns-in-Ended-clause-others
 returns-in-Ended-clause-others g c =
-    made_past c.args.limit (ends.Ended (c.loop-turn.turn + 1)) (g.M.Ram.paged c.args.memory.now) (g.M.Ram.paged c.loop-turn.memory)
-    (g.M.Ram.paged c.prepare.new.memory) (g.M.Ram.paged c.execute.new.memory) c.loop-turn.invariant.run c.loop-turn.invariant.made c.prepare.ensures.others
-    c.execute.ensures.step.pages (omega arith)
+    made_past (g.M.Ram.paged c.args.memory.now) (g.M.Ram.paged c.loop-turn.memory) (g.M.Ram.paged c.prepare.new.memory) (g.M.Ram.paged c.execute.new.memory)
+    c.loop-turn.invariant.run c.loop-turn.invariant.made c.prepare.ensures.others c.execute.ensures.step.pages c.args.limit (ends.Ended (c.loop-turn.turn + 1))
+    (omega arith)
 
 pub returns-in-Fault-clause-others : goal.returns-in-Fault-clause-others
 returns-in-Fault-clause-others g c =
-    made_past c.args.limit (ends.Fault c.in-Fault.kind c.pc-pc.result) (g.M.Ram.paged c.args.memory.now) (g.M.Ram.paged c.loop-turn.memory)
-    (g.M.Ram.paged c.prepare.new.memory) (g.M.Ram.paged c.execute.new.memory) c.loop-turn.invariant.run c.loop-turn.invariant.made c.prepare.ensures.others
-    c.execute.ensures.step.pages (omega arith)
+    made_past (g.M.Ram.paged c.args.memory.now) (g.M.Ram.paged c.loop-turn.memory) (g.M.Ram.paged c.prepare.new.memory) (g.M.Ram.paged c.execute.new.memory)
+    c.loop-turn.invariant.run c.loop-turn.invariant.made c.prepare.ensures.others c.execute.ensures.step.pages c.args.limit
+    (ends.Fault c.in-Fault.kind c.pc-pc.result) (omega arith)
 
 pub returns-clause-others : goal.returns-clause-others
 returns-clause-others g c =

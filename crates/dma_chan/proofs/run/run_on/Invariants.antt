@@ -11,7 +11,6 @@ invariant-loop-turn g l = record {
       (g.M.Ram.paged l.memory).image l.events;
   known : IfSome l.known (λ p. has_page (g.M.Ram.paged l.memory) p ≡ true);
   pages : (p : ℕ) → has_page (g.M.Ram.paged l.fn.memory) p ≡ true → has_page (g.M.Ram.paged l.memory) p ≡ true;
-  made : MadeFor (with_gaps (g.M.Ram.loan l.fn.memory) []) l.fn.program.bytes (opening (g.M.Ram.paged l.fn.memory).image) l.turn (g.M.Ram.paged l.fn.memory)
-      (g.M.Ram.paged l.memory);
+  made : MadeFor (with_gaps (g.M.Ram.loan l.fn.memory) []) l.fn.program.bytes l.turn (g.M.Ram.paged l.fn.memory) (g.M.Ram.paged l.memory);
   loan : g.M.Ram.loan l.memory ≡ g.M.Ram.loan l.fn.memory;
 }

@@ -17,14 +17,14 @@ returns-in_default-clause-only c b w f =
     let found = c.in_default.ensures.read (head_of d) (rest_of d) refl parts.ranges parts.rest in
     cc found
 
-pub returns-then-not-fits-clause-only : goal.returns-then-not-fits-clause-only
-returns-then-not-fits-clause-only c b w f =
+pub returns-then-not-has_size-clause-only : goal.returns-then-not-has_size-clause-only
+returns-then-not-has_size-clause-only c b w f =
     let d = on_bus c.args.bus b in
     let parts = saved_parts_on c.args.bus b c.args.save.now w f in
     let found = c.in-Some.ensures.read (head_of d) (rest_of d) refl parts.ranges parts.rest in
     let head : c.in-Some.head ≡ head_of d = cc found in
-    let fits : c.fits.result ≡ true = c.fits.ensures.1 (rw head parts.fits) in
-    cc (fits, c.if-not-fits.true)
+    let fits : c.has_size.result ≡ true = c.has_size.ensures.1 (rw head parts.fits) in
+    cc (fits, c.if-not-has_size.true)
 
 pub returns-then-eq-clause-found : goal.returns-then-eq-clause-found
 returns-then-eq-clause-found c = grind (arith, slice_eq-Decides, Decides-eqb, sealed_is_saved)
