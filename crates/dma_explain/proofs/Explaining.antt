@@ -1,4 +1,4 @@
--- The run that explains a program, turn after turn.
+-- The run that explains a program, step after step.
 use Rattle.std.proofs.Common.{◌≡◌, ◌≢◌, ℕ, suc, ◌+◌, ◌-◌, ◌≤◌, ◌<◌, List, ◌++◌, length, length-append, Some, None, Result, Ok}
 use Rattle.std.proofs.Common.{sym, ap, ◌∙◌, subst, arith, inl, inr}
 use Rattle.std.specs.{Prelude.nat_lt, List.AllPairs}
@@ -14,13 +14,13 @@ use Rattle.dma_explain.specs.Explains.{ExplainedOnce, Explains, Finds, FoundOnce
 use Rattle.dma_explain.specs.Explains.{after_fetch, after_insn, all_of, amounts_of, bursts_in, cleared, counted, events_in, happening_of, has_twice, held}
 use Rattle.dma_explain.specs.Explains.{items_in, items_of, next_in, stop_of, stop_of_insn, stop_of_lists, traced, unrolled, work_of, written, written_in}
 use Rattle.dma_explain.specs.Items.{Items, with_burst}
-use Rattle.dma_explain.specs.inner.Tracing.{Advances, AreItems, CountsOf, Follows, IsCopied, IsNew, Leads, Reaches, lists_of, total_of, trace_of}
+use Rattle.dma_explain.specs.inner.Tracing.{Advances, AreItems, Follows, IsCopied, IsNew, Leads, Reaches, lists_of, total_of, trace_of}
 use Rattle.dma_explain.specs.{declared.explain.BurstCounts.BurstCounts, declared.explain.Cause.Cause}
 use Rattle.dma_explain.specs.{declared.explain.Explained.Explained, declared.explain.Happening.Happening, declared.explain.tracer.Tracer.Tracer}
 use Rattle.dma_explain.proofs.{GoingOn.none_first, GoingOn.passed, TraceParts.same_lists, LowestPlaces.none_twice, LowestPlaces.once_of}
 use Rattle.dma_chan.proofs.NextFits.{next_fits}
 
--- ---- turn after turn
+-- ---- step after step
 
 pub follows_new : (start : Registers) (program : List ℕ) (x : Tracer) → IsNew start x → Follows start program 0 x
 follows_new start program x h = grind arith
@@ -68,8 +68,8 @@ reaches_on {start} {program} {n} {z} i w e other stops =
 
 pub follows_on : (program : List ℕ) (x y : Tracer) (bursts : BurstCounts) (i : ChipInsn) → Ok i ≡ next_on x.registers.bus program x.registers.pc → i ≢ End
     → Advances i x y → y.registers.pc ≤ x.registers.pc + length (spelling i) → total_of y ≤ total_of x + 256 → bursts ≡ counted (Ok i) x.bursts
-    → ((n : ℕ) → CountsOf n x.bursts → CountsOf (n + 1) bursts) → Leads program 1 x (record y { bursts = bursts })
-follows_on program x y bursts i e other a jump more count few start n w =
+    → Leads program 1 x (record y { bursts = bursts })
+follows_on program x y bursts i e other a jump more count start n w =
     let fits = next_fits x.registers.bus program x.registers.pc i w.pc (sym e) in
     let on = reaches_on i w.reaches (sym e) other a.goes in
     record {
@@ -89,7 +89,7 @@ follows_on program x y bursts i e other a jump more count few start n w =
       };
       pc = omega (arith, fits, jump);
       stored = omega (arith, w.stored, more);
-      counts = few n w.counts;
+      counts = grind arith;
     }
 
 -- ---- DMAEND

@@ -16,8 +16,8 @@ pub mod TracerSteps
 pub mod TracerBursts
 pub mod Explaining
 pub mod ItemsInTurn
-pub mod TurnSizes
-pub mod Turns
+pub mod RoundSizes
+pub mod Rounds
 pub mod Refusals
 pub mod RegionsHave
 pub mod Rows

@@ -75,54 +75,55 @@ module _ (x : Tracer) (b : Burst) (h : IsTracer x) (some : MovesSome b) where
         lists = lists ∙ ap (λ (c : Burst). record (lists_of x) { reads = with_item join_read x.src.items (read_of c) }) is;
       }
 
-  pub store_advances : (after : Registers) (n : ℕ) (done : Amounts) (dst : Vec Segment Global) → b ≡ destination_of x.registers → b.increments ≡ true
-      → burst_len b ≤ x.held → passes b ≡ false → after ≡ moved St x.registers → n ≡ x.held - burst_len b
-      → done ≡ record x.done { copied = x.done.copied + burst_len b } → dst.items ≡ with_item join_run x.dst.items (run_of b)
-      → Advances St x (record x { registers = after; held = n; done = done; dst = dst })
-  store_advances after n done dst is up has low registers less more pushed =
-      let all = runs_with x.dst.items (run_of b) h.items.writes (run_is b some low) in
-      let put : places dst.items ≡ z.stores ++ touched b = ap places pushed ∙ all.1
-      ∙ ap (λ (xs : List ℕ). z.stores ++ xs) (touched_span b (run_of b) up refl refl) in
-      let lists = ap (λ (ws : List Segment). record (lists_of x) { writes = ws }) pushed in
-      let copied = ap (λ (a : Amounts). a.copied) h.done in
-      let grown : x.done.copied + burst_len b ≡ length (places dst.items) = grind (arith, length-append, length_up) in
-      record {
-        tracer = record {
-          few = omega (arith, h.few, h.held, has, grown, copied);
-          held = omega (arith, h.few, h.held, less, has, grown, copied);
-          room = omega (arith, h.room, less);
-          done = more ∙ same_amounts grown (ap (λ (a : Amounts). a.cleared) h.done);
-          items = subst AreItems (sym lists) (with_run (lists_of x) (run_of b) h.items (run_is b some low));
-        };
-        goes = rw (← is) (passed (nat_lt (held z) (burst_len b)) (Fails StDataUnavailable) _ (le-ltb (held z) (burst_len b) (omega (arith, has, h.held)))
-            (passed (passes b) StoresPast _ low (ap (λ (i : Bool). cond i None (Some StoresFixed)) up)));
-        trace = same_parts registers refl (put ∙ ap (λ (c : Burst). z.stores ++ touched c) is) refl;
-        events = sym (append-nil x.events.items);
-        lists = lists ∙ ap (λ (c : Burst). record (lists_of x) { writes = with_item join_run x.dst.items (run_of c) }) is;
-      }
+  -- a store that continues
+  module _ (is : b ≡ destination_of x.registers) (up : b.increments ≡ true) (low : passes b ≡ false) where
+    pub store_advances : (after : Registers) (n : ℕ) (done : Amounts) (dst : Vec Segment Global) → burst_len b ≤ x.held → after ≡ moved St x.registers
+        → n ≡ x.held - burst_len b → done ≡ record x.done { copied = x.done.copied + burst_len b } → dst.items ≡ with_item join_run x.dst.items (run_of b)
+        → Advances St x (record x { registers = after; held = n; done = done; dst = dst })
+    store_advances after n done dst has registers less more pushed =
+        let all = runs_with x.dst.items (run_of b) h.items.writes (run_is b some low) in
+        let put : places dst.items ≡ z.stores ++ touched b = ap places pushed ∙ all.1
+        ∙ ap (λ (xs : List ℕ). z.stores ++ xs) (touched_span b (run_of b) up refl refl) in
+        let lists = ap (λ (ws : List Segment). record (lists_of x) { writes = ws }) pushed in
+        let copied = ap (λ (a : Amounts). a.copied) h.done in
+        let grown : x.done.copied + burst_len b ≡ length (places dst.items) = grind (arith, length-append, length_up) in
+        record {
+          tracer = record {
+            few = omega (arith, h.few, h.held, has, grown, copied);
+            held = omega (arith, h.few, h.held, less, has, grown, copied);
+            room = omega (arith, h.room, less);
+            done = more ∙ same_amounts grown (ap (λ (a : Amounts). a.cleared) h.done);
+            items = subst AreItems (sym lists) (with_run (lists_of x) (run_of b) h.items (run_is b some low));
+          };
+          goes = rw (← is) (passed (nat_lt (held z) (burst_len b)) (Fails StDataUnavailable) _ (le-ltb (held z) (burst_len b) (omega (arith, has, h.held)))
+              (passed (passes b) StoresPast _ low (ap (λ (i : Bool). cond i None (Some StoresFixed)) up)));
+          trace = same_parts registers refl (put ∙ ap (λ (c : Burst). z.stores ++ touched c) is) refl;
+          events = sym (append-nil x.events.items);
+          lists = lists ∙ ap (λ (c : Burst). record (lists_of x) { writes = with_item join_run x.dst.items (run_of c) }) is;
+        }
 
-  pub clear_advances : (after : Registers) (done : Amounts) (zeros : Vec Segment Global) → b ≡ destination_of x.registers → b.increments ≡ true
-      → passes b ≡ false → after ≡ moved StoreZeros x.registers → done ≡ record x.done { cleared = x.done.cleared + burst_len b }
-      → zeros.items ≡ with_item join_run x.zeros.items (run_of b) → Advances StoreZeros x (record x { registers = after; done = done; zeros = zeros })
-  clear_advances after done zeros is up low registers more pushed =
-      let all = runs_with x.zeros.items (run_of b) h.items.zeros (run_is b some low) in
-      let put : places zeros.items ≡ z.zeros ++ touched b = ap places pushed ∙ all.1
-      ∙ ap (λ (xs : List ℕ). z.zeros ++ xs) (touched_span b (run_of b) up refl refl) in
-      let lists = ap (λ (ws : List Segment). record (lists_of x) { zeros = ws }) pushed in
-      let grown : x.done.cleared + burst_len b ≡ length (places zeros.items) = grind (arith, length-append, length_up) in
-      record {
-        tracer = record {
-          few = h.few;
-          held = h.held;
-          room = h.room;
-          done = more ∙ same_amounts (ap (λ (a : Amounts). a.copied) h.done) grown;
-          items = subst AreItems (sym lists) (with_zeros (lists_of x) (run_of b) h.items (run_is b some low));
-        };
-        goes = rw (← is) (passed (passes b) StoresPast _ low (ap (λ (i : Bool). cond i None (Some StoresFixed)) up));
-        trace = same_parts registers refl refl (put ∙ ap (λ (c : Burst). z.zeros ++ touched c) is);
-        events = sym (append-nil x.events.items);
-        lists = lists ∙ ap (λ (c : Burst). record (lists_of x) { zeros = with_item join_run x.zeros.items (run_of c) }) is;
-      }
+    pub clear_advances : (after : Registers) (done : Amounts) (zeros : Vec Segment Global) → after ≡ moved StoreZeros x.registers
+        → done ≡ record x.done { cleared = x.done.cleared + burst_len b } → zeros.items ≡ with_item join_run x.zeros.items (run_of b)
+        → Advances StoreZeros x (record x { registers = after; done = done; zeros = zeros })
+    clear_advances after done zeros registers more pushed =
+        let all = runs_with x.zeros.items (run_of b) h.items.zeros (run_is b some low) in
+        let put : places zeros.items ≡ z.zeros ++ touched b = ap places pushed ∙ all.1
+        ∙ ap (λ (xs : List ℕ). z.zeros ++ xs) (touched_span b (run_of b) up refl refl) in
+        let lists = ap (λ (ws : List Segment). record (lists_of x) { zeros = ws }) pushed in
+        let grown : x.done.cleared + burst_len b ≡ length (places zeros.items) = grind (arith, length-append, length_up) in
+        record {
+          tracer = record {
+            few = h.few;
+            held = h.held;
+            room = h.room;
+            done = more ∙ same_amounts (ap (λ (a : Amounts). a.copied) h.done) grown;
+            items = subst AreItems (sym lists) (with_zeros (lists_of x) (run_of b) h.items (run_is b some low));
+          };
+          goes = rw (← is) (passed (passes b) StoresPast _ low (ap (λ (i : Bool). cond i None (Some StoresFixed)) up));
+          trace = same_parts registers refl refl (put ∙ ap (λ (c : Burst). z.zeros ++ touched c) is);
+          events = sym (append-nil x.events.items);
+          lists = lists ∙ ap (λ (c : Burst). record (lists_of x) { zeros = with_item join_run x.zeros.items (run_of c) }) is;
+        }
 
 -- ---- what a tracer's instructions know
 

@@ -8,8 +8,8 @@ ghost use Rattle.dma_explain.specs.Explains.{Finds, HasAddress, Refuses, bursts_
 ghost use Rattle.dma_explain.specs.inner.Tracing.{IsCopied, IsTracer, Stops, trace_of};
 
 mod ranges;
+mod rounds;
 pub mod tracer;
-mod turns;
 
 use crate::explain::ranges::overlap;
 use crate::explain::tracer::Tracer;
@@ -21,7 +21,7 @@ use dma_insn::chip::ChipInsn;
 use dma_mem::segment::Segment;
 use std::alloc::Global;
 
-/// A range of addresses that a program reads several times in a row: the `len` bytes from `addr` on, `times` times.
+/// A range of addresses that a program reads `times` times in a row, once or more: the `len` bytes from `addr` on.
 #[repr(C)]
 #[derive(Clone, Copy)]
 pub struct Repeated {
@@ -179,8 +179,8 @@ fn finish(alloc: Global, tracer: Tracer, steps: u32) -> Result<Explained, Stop>
 /// at 0.
 ///
 /// It takes a few nanoseconds for each instruction that is executed, so `most` also bounds its time. Long loops of
-/// DMALD, DMAST, DMARMB, DMAWMB and DMANOP take less than a tenth of that, if the addresses of each turn continue those
-/// of the turn before: many turns are one step. It allocates 24 bytes for each DMASEV and DMAWFE that is executed, 12
+/// DMALD, DMAST, DMARMB, DMAWMB and DMANOP take less than a tenth of that, if the addresses of each round continue those
+/// of the round before: many rounds are one step. It allocates 24 bytes for each DMASEV and DMAWFE that is executed, 12
 /// bytes for each load whose range doesn't continue or repeat the one before, and 16 bytes for each store whose range
 /// doesn't continue the one before; a list that grows takes up to three times as much for a moment.
 pub fn explain(

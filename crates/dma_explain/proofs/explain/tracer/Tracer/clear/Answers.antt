@@ -14,6 +14,6 @@ returns-clause-ok c =
     let low = sym (passes_span b c.span.result c.span.ensures.addr c.span.ensures.len) ∙ sym c.if-wraps.ensures in
     let cleared = at_ok c.push_run.result _ c.if-is_err.ensures.value c.push_run.ensures
     ∙ ap (with_item join_run x.zeros.items) (span_run b span c.span-2.ensures.addr c.span-2.ensures.len) in
-    clear_advances x b c.requires.tracer c.destination_burst-burst.ensures.some.some _ _ _ is up low
+    clear_advances x b c.requires.tracer c.destination_burst-burst.ensures.some.some is up low _ _ _
     (cleared_registers x.registers b c.len-len.result is up c.len-len.ensures.value)
     (ap (λ (n : ℕ). record x.done { cleared = x.done.cleared + n }) (c.from.ensures ∙ c.len-len.ensures.value)) cleared

@@ -14,7 +14,7 @@ returns-clause-ok c =
     let low = sym (passes_span b c.span.result c.span.ensures.addr c.span.ensures.len) ∙ sym c.if-wraps.ensures in
     let written = at_ok c.push_run.result _ c.if-is_err.ensures.value c.push_run.ensures
     ∙ ap (with_item join_run x.dst.items) (span_run b span c.span-2.ensures.addr c.span-2.ensures.len) in
-    store_advances x b c.requires.tracer c.destination_burst-burst.ensures.some.some _ _ _ _ is up
-    (omega (arith, c.if-self-len.false, c.len-len.ensures.value)) low
+    store_advances x b c.requires.tracer c.destination_burst-burst.ensures.some.some is up low _ _ _ _
+    (omega (arith, c.if-self-len.false, c.len-len.ensures.value))
     (stored_registers x.registers b c.len-len.result is up c.len-len.ensures.value) (omega (arith, c.len-len.ensures.value))
     (ap (λ (n : ℕ). record x.done { copied = x.done.copied + n }) (c.from.ensures ∙ c.len-len.ensures.value)) written
