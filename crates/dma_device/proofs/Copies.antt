@@ -14,7 +14,7 @@ use Rattle.dma_explain.proofs.CallsAmongOthers.{call_answers, call_fails, call_w
 use Rattle.dma_explain.proofs.SinceLoads.{IsPart, part_first, runs_so, worked_part, done_grows}
 use Rattle.dma_explain.proofs.{RegionsHave.gaps_miss, AmongOthers.Among}
 use Rattle.dma_device.specs.Copies.{AreDone, DmagoCopies, DmagoInterrupts, DmagoNeverFails, HasRisen, IsFit, Rises}
-use Rattle.dma_device.specs.Dmago.{GivenTurns, csr_status, image_in}
+use Rattle.dma_device.specs.Dmago.{csr_status, image_in}
 use Rattle.dma_device.specs.Turns.{begins, runs_at, setup_of}
 use Rattle.dma_device.specs.{CallSteps.first_in, CallSteps.marks_in, Device.DeviceValue, Thread.is_faulting}
 use Rattle.dma_device.specs.{declared.config.Config.Config, declared.device.turns.Called.Called, declared.thread.Thread.Thread}
@@ -179,14 +179,10 @@ module _ (c : Copying) (n : ℕ) where
 -- ---- along the turns
 
 module _ (x : Drive) where
+  open x use {run, go.{channel as n}}
+
   abbrev c : Copying
   c = copying x
-
-  abbrev n : ℕ
-  n = x.go.channel
-
-  abbrev run : GivenTurns
-  run = x.run
 
   -- a turn in which line i rose signals its event
   pub rises_by : (i j : ℕ) → j < run.count → Rises run i j → (sent_by n (one_at x j) ≡ Some i) ⊎ (sent_by n (two_at x j) ≡ Some i)

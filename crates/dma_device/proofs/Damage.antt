@@ -4,7 +4,7 @@ use Rattle.std.proofs.Common.{inr}
 use Rattle.std.specs.Int.{w32, to_le_bytes}
 use Rattle.std.proofs.lemmas.List.{drop-set-lt, drop_at, get_or-set_other, get_or-set_same, get_or-take, length-set, take-append-drop, take-set-le, take_at}
 use Rattle.std.proofs.{lemmas.Bool.cases_eq, lemmas.Bool.cases_lt, lemmas.Nat.from_le_bytes-to_le_bytes_4}
-use Rattle.dma_chan.specs.Saved.{adler, checksum}
+use Rattle.dma_chan.specs.Saved.{adler, adler_prime, checksum}
 use Rattle.dma_device.specs.{Device.DeviceValue, Snapshot.DamageIsRefused, Snapshot.parts_in, Snapshot.saved_device}
 use Rattle.dma_device.proofs.SavedDevices.{old_version, own_length, own_parts, own_version}
 
@@ -27,19 +27,19 @@ total_set [] k v h = absurd (omega arith)
 total_set (x ∷ xs) zero v h = omega arith
 total_set (x ∷ xs) (suc k) v h = let rest = total_set xs k v (omega arith) in omega (arith, rest)
 
-adler_low : (low high : ℕ) (bs : List ℕ) → low < 65521 → adler low high bs % 65536 ≡ (low + total bs) % 65521
+adler_low : (low high : ℕ) (bs : List ℕ) → low < adler_prime → adler low high bs % 65536 ≡ (low + total bs) % adler_prime
 unfolding adler
 adler_low low high [] few = omega (arith, few)
 adler_low low high (b ∷ bs) few =
-    let next = (low + b) % 65521 in
-    (adler_low next ((high + next) % 65521) bs (omega arith)) ∙ omega arith
+    let next = (low + b) % adler_prime in
+    (adler_low next ((high + next) % adler_prime) bs (omega arith)) ∙ omega arith
 
-adler_few : (low high : ℕ) (bs : List ℕ) → low < 65521 → high < 65521 → adler low high bs < 2 ^ 32
+adler_few : (low high : ℕ) (bs : List ℕ) → low < adler_prime → high < adler_prime → adler low high bs < 2 ^ 32
 unfolding adler
 adler_few low high [] a b = omega (arith, a, b)
-adler_few low high (c ∷ bs) a b = let next = (low + c) % 65521 in adler_few next ((high + next) % 65521) bs (omega arith) (omega arith)
+adler_few low high (c ∷ bs) a b = let next = (low + c) % adler_prime in adler_few next ((high + next) % adler_prime) bs (omega arith) (omega arith)
 
-sum_low : (bs : List ℕ) → checksum bs % 65536 ≡ (1 + total bs) % 65521
+sum_low : (bs : List ℕ) → checksum bs % 65536 ≡ (1 + total bs) % adler_prime
 unfolding checksum
 sum_low bs = adler_low 1 0 bs (omega arith)
 
@@ -50,7 +50,7 @@ sum_few bs = adler_few 1 0 bs (omega arith) (omega arith)
 -- lists with the same checksum don't differ in one byte
 one_differs : (bs : List ℕ) (k v : ℕ) → k < length bs → get_or bs k 0 < 256 → v < 256 → get_or bs k 0 ≢ v → checksum (set bs k v) ≢ checksum bs
 one_differs bs k v within old new other same =
-    let low : (1 + total (set bs k v)) % 65521 ≡ (1 + total bs) % 65521 = sym (sum_low (set bs k v)) ∙ ap (λ (n : ℕ). n % 65536) same ∙ sum_low bs in
+    let low = sym (sum_low (set bs k v)) ∙ ap (λ (n : ℕ). n % 65536) same ∙ sum_low bs in
     omega (arith, low, total_set bs k v within, old, new, other)
 
 -- ---- a save

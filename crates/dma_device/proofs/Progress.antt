@@ -13,7 +13,7 @@ use Rattle.dma_explain.specs.Works.{MissesAll}
 use Rattle.dma_explain.proofs.CallsAmongOthers.{call_answers, call_fails, many, next_ahead}
 use Rattle.dma_explain.proofs.{AmongOthers.is_in, CompiledExplained.compiled_events}
 use Rattle.dma_chan.proofs.{RunAlone.moved_count, StepsTaken.steps_move, SteppedOver.is_still, SteppedOver.was_moved, SteppedOver.went_before}
-use Rattle.dma_device.specs.Dmago.{Go, GivenTurns, csr_status, start_of}
+use Rattle.dma_device.specs.Dmago.{Go, csr_status, start_of}
 use Rattle.dma_device.specs.Progress.{CompiledGoesOn, CompiledHasEvents, CompiledSignals, DmagoFinishes, ReadyTurns, IsCompiled, MayPass, compiled_count}
 use Rattle.dma_device.specs.{CallSteps.StepsThread, Device.DeviceValue, Device.csr, Device.of_thread, Copies.IsFit, Events.IsVisible}
 use Rattle.dma_device.specs.{Thread.is_faulting, Thread.is_stopped, Thread.is_stopped_status, Thread.status_bits, Turns.runs_at}
@@ -24,7 +24,7 @@ use Rattle.dma_device.proofs.Driven.{After, Before, Call, Copying, Drive, Going,
 use Rattle.dma_device.proofs.Driven.{one_at, steps_of, to, turned, two_at, weaker}
 use Rattle.dma_device.proofs.{Events.flag_of_bit, FlagSteps.waits_at, Starts.read_csr, Interrupts.seen_bit}
 use borrow.Author.Tests.{ltb-true}
-use Rattle.dma_explain.specs.Explains.{Explains, HasEvents, IsIn, IsWait, StartsWith, Work, next_in, traced}
+use Rattle.dma_explain.specs.Explains.{Explains, UsesEventsOf, IsIn, IsWait, StartsWith, Work, next_in, traced}
 
 -- ---- a call of a channel with a program that copies
 
@@ -190,14 +190,10 @@ pub record Ahead (Early : ℕ → ℕ → Type 0) (k : ℕ) (th : Thread) : Type
   pub ahead : Early k th.channel.taken
 
 module _ (x : Drive) where
+  open x use {run, go.{channel as n}}
+
   abbrev c : Copying
   c = copying x
-
-  abbrev n : ℕ
-  n = x.go.channel
-
-  abbrev run : GivenTurns
-  run = x.run
 
   -- a thread that goes on has executed no more than the program has before its DMAEND
   pub within_count : {image : List ℕ} {th : Thread} → Going c image th → th.channel.taken ≤ x.count
@@ -310,8 +306,8 @@ dmago_finishes go work n run h fit ready k long less = finishes (drive go work n
 
 -- ---- compiled programs
 
-events_of : (go : Go) (t : Descriptor) → IsCompiled go t → HasEvents (start_of go) go.program t (compiled_count go t)
-events_of go t is = subst (λ (bytes : List ℕ). HasEvents (start_of go) bytes t (compiled_count go t)) (sym is.1) (compiled_events (start_of go) t is.0)
+events_of : (go : Go) (t : Descriptor) → IsCompiled go t → UsesEventsOf (start_of go) go.program t (compiled_count go t)
+events_of go t is = subst (λ (bytes : List ℕ). UsesEventsOf (start_of go) bytes t (compiled_count go t)) (sym is.1) (compiled_events (start_of go) t is.0)
 
 pub compiled_has_events : CompiledHasEvents
 compiled_has_events go t d is wait signal =

@@ -53,7 +53,8 @@ board_at : (access : ℕ → Access) (answer : ℕ → Answer) (before : ℕ →
     → Happen access answer before lent left count → StaysLent lent left count → (k : ℕ) → k ≤ count
     → lent_device (before k) (lent k) ≡ run access (lent_device (before 0) (lent 0)) k
 board_at access answer before lent left count x stays zero within = refl
-board_at access answer before lent left count x stays (suc k) within = grind (arith, alike_is, does_is, board_at access answer before lent left count x stays k (omega arith))
+board_at access answer before lent left count x stays (suc k) within =
+    grind (arith, alike_is, does_is, board_at access answer before lent left count x stays k (omega arith))
 
 pub runs_step_by_step : RunsStepByStep
 runs_step_by_step access answer before lent left count x stays =

@@ -10,7 +10,7 @@ use Rattle.dma_chan.specs.{Channel.ChannelValue, Channel.ahead_of, Exec.ChangesN
 use Rattle.dma_explain.specs.{Explains.IsSignal, Explains.next_in, Explains.traced, declared.explain.Amounts.Amounts}
 use Rattle.dma_explain.proofs.{AmongOthers.goes_on_at, CallsAmongOthers.many, CallsAmongOthers.next_ahead}
 use Rattle.dma_chan.proofs.{StepsTaken.steps_move, SteppedOver.is_still, SteppedOver.went_before}
-use Rattle.dma_device.specs.Dmago.{GivenTurns, csr_status, start_of}
+use Rattle.dma_device.specs.Dmago.{csr_status, start_of}
 use Rattle.dma_device.specs.{Device.irqs, Interrupts.HasLine, Interrupts.IsHigh, Progress.DmagoSignals, Progress.WasHigh}
 use Rattle.dma_device.specs.{declared.thread.Thread.Thread}
 use Rattle.dma_device.proofs.Driven.{Call, Copying, Drive, Going, RunsOn, Steps, along, channel_after, copying, count_in, drive, from, last_answer}
@@ -116,14 +116,10 @@ module _ (c : Copying) (n i : ℕ) (done : Amounts) (sev : IsSignal c.start c.pr
 
 module _ (x : Drive) (i : ℕ) (done : Amounts) (sev : IsSignal (start_of x.go) x.go.program x.count i done)
     (on : (k : ℕ) → k < x.run.count → HasLine (x.run.before k) i × IsHigh (x.run.before k).inten i) where
+  open x use {run, go.{channel as n}}
+
   abbrev c : Copying
   c = copying x
-
-  abbrev n : ℕ
-  n = x.go.channel
-
-  abbrev run : GivenTurns
-  run = x.run
 
   -- its line was high after a turn before number j
   record Was (j : ℕ) : Type 0 where

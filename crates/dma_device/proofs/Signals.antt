@@ -14,7 +14,7 @@ use Rattle.dma_explain.proofs.CallsAmongOthers.{is_signal, many, moved_on, next_
 use Rattle.dma_explain.proofs.{SinceLoads.done_grows}
 use Rattle.dma_chan.proofs.{CallWrites.does_next, StepsTaken.steps_move}
 use Rattle.dma_device.specs.Copies.{AreDone, DmagoInterruptsEach, IsSignalNumber, Rises, RisesInEach, is_signal_of, signals_in}
-use Rattle.dma_device.specs.Dmago.{GivenTurns, image_in}
+use Rattle.dma_device.specs.Dmago.{image_in}
 use Rattle.dma_device.specs.{declared.thread.Thread.Thread}
 use Rattle.dma_device.proofs.Driven.{Call, Copying, Drive, RunsOn, Steps, along, channel_after, copying, count_in, drive, from, last_answer, new}
 use Rattle.dma_device.proofs.Driven.{one_at, result_of, sent_by, steps_of, to, turned, two_at, weaker}
@@ -101,14 +101,10 @@ module _ (c : Copying) (n i : ℕ) where
 -- ---- along the turns
 
 module _ (x : Drive) (i j : ℕ) (turn : ℕ → ℕ) (each : RisesInEach x.run i j turn) where
+  open x use {run, go.{channel as n}}
+
   abbrev c : Copying
   c = copying x
-
-  abbrev n : ℕ
-  n = x.go.channel
-
-  abbrev run : GivenTurns
-  run = x.run
 
   -- the first b of the turns in which the line rose come before turn number k
   abbrev Rose : ℕ → ℕ → Type 0

@@ -17,7 +17,7 @@ use Rattle.dma_chan.specs.{declared.exec.Registers.Registers, declared.turn.Faul
 use Rattle.dma_chan.proofs.{StepsTaken.steps_counted, StepsTaken.steps_move, SteppedOver.was_moved, SteppedOver.went_before, SteppedOver.is_still}
 use Rattle.dma_chan.proofs.{ActCases.IsAccepted, ActCases.fetched_cases, BusKept.steps_bus, MembersByNumber.ccr_looped}
 use Rattle.dma_device.specs.Thread.{IsOn, IsSound, answer, answered, failed, is_before_wait, moved, operand_invalid, reset_thread, waits_for}
-use Rattle.dma_device.specs.{Config.is_valid, declared.config.Config.Config, declared.device.Device.TheInside.Inside, declared.device.Manager.Manager}
+use Rattle.dma_device.specs.{Config.is_valid, declared.config.Config.Config, declared.device.Device.TheInside.Inside, Snapshot.HasKnownEvents, Snapshot.head_of}
 use Rattle.dma_device.specs.{Device.DeviceValue, Device.with_thread, Idle.IsSoundDevice, inner.Fields.AreOn, inner.Fields.IsDevice, inner.Fields.device_value}
 use Rattle.dma_device.specs.{declared.thread.Status.TheVariants.WaitingForEvent, declared.thread.Thread.Thread}
 use Rattle.dma_insn.specs.declared.chip.ChipInsn.{ChipInsn}
@@ -200,23 +200,13 @@ with_new d n old new h is kept sound = record {
   count = length-set d.threads.items n new ∙ h.count;
   sound = thread_sound (device_value d) n new h.sound sound;
   on = on_kept d.config.bus d.threads.items n old new h.on is kept;
-  marks = h.marks;
 }
 
 -- all threads, the manager and the registers are replaced
-pub with_parts : (d : Inside) (ts : List Thread) (manager : Manager) (events interrupts inten dbginst0 dbginst1 : ℕ) → IsDevice d → length ts ≡ d.threads.len
-    → length ts ≡ length d.threads.items → All (IsSound d.config.events) ts → AreOn d.config.bus ts → events < 2 ^ d.config.events
-    → interrupts < 2 ^ d.config.events → inten < 2 ^ d.config.events
-    → IsDevice (record d {
-      threads = with_items d.threads ts;
-      manager = manager;
-      events = events;
-      interrupts = interrupts;
-      inten = inten;
-      dbginst0 = dbginst0;
-      dbginst1 = dbginst1;
-    })
-with_parts d ts manager events interrupts inten dbginst0 dbginst1 h len count sound on a b c = grind (arith, with_items_is)
+pub with_parts : (d e : Inside) (ts : List Thread) → IsDevice d → e.threads ≡ with_items d.threads ts → e.config ≡ d.config
+    → length ts ≡ d.threads.len → length ts ≡ length d.threads.items → All (IsSound d.config.events) ts → AreOn d.config.bus ts
+    → HasKnownEvents (head_of (device_value e)) → IsDevice e
+with_parts d e ts h threads config len count sound on known = grind (arith, with_items_is)
 
 -- the events change
 pub with_events : (d : Inside) (events interrupts inten : ℕ) → IsDevice d → events < 2 ^ d.config.events → interrupts < 2 ^ d.config.events

@@ -7,7 +7,7 @@ use Rattle.dma_insn.specs.{ControlWord.flag, declared.chip.ChipInsn.ChipInsn, de
 use Rattle.dma_chan.specs.{Channel.ahead_of, declared.turn.FaultKind.FaultKind, Programs.ProgramValue, Stepping.machine}
 use Rattle.dma_explain.proofs.{CallStays.ahead_at}
 use Rattle.dma_device.specs.Progress.{TheLoopFinishes, VainTurnsWait, is_clear_wait, is_vain, vain, waits_in_vain}
-use Rattle.dma_device.specs.{Copies.IsFit, Device.DeviceValue, Dmago.GivenTurns, Dmago.csr_status, Dmago.image_in, Idle.IsAtWait}
+use Rattle.dma_device.specs.{Copies.IsFit, Device.DeviceValue, Dmago.csr_status, Dmago.image_in, Idle.IsAtWait}
 use Rattle.dma_device.specs.{Thread.is_faulting, Thread.runs, Turns.runs_at, Turns.visible_events, declared.thread.Thread.Thread}
 use Rattle.dma_device.proofs.Driven.{Before, Copying, Drive, Going, before_each, copying, drive}
 use Rattle.dma_device.proofs.Progress.{Ahead, Awake, Counts, Reached, stays_ahead, csr_stopped, going_runs, visible_bit, wait_ahead, within_count}
@@ -46,14 +46,10 @@ pub busy : (most : ℕ) → nat_eq most 0 ≡ false → 0 < most
 busy most is = omega (arith, eqb-false most 0 is)
 
 module _ (x : Drive) (fit : (k : ℕ) → k < x.run.count → IsFit x.go x.work x.count (x.run.before k) (x.run.lent k)) where
+  open x use {run, go.{channel as n}}
+
   abbrev c : Copying
   c = copying x
-
-  abbrev n : ℕ
-  n = x.go.channel
-
-  abbrev run : GivenTurns
-  run = x.run
 
   -- a thread that goes on and waits in vain
   at_wait : (k : ℕ) → k < run.count → (t : Thread) → slice_get (run.before k).threads n ≡ Some t → Going c (image_in (run.lent k)) t → runs t ≡ true

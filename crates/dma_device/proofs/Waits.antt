@@ -162,7 +162,7 @@ only_waits marks n most t s h some w =
     let all : 2 ^ d.config.events ≤ 2 ^ 32 = pow_mono {i = d.config.events} {j = 32} h.few in
     let few : seen < 2 ^ 32 = omega (arith, and_le_l d.events (bit_not w32 d.inten), h.known.events) in
     let waits : TakesSteps marks from most count (Some (Waiting w.event)) from = grind (arith) in
-    stepped_is marks n most t s t.channel s.image seen count (Some (Waiting w.event)) None (range_at 0 0) few waits (sym still.signal) (sym still.written)
+    stepped_is marks most t s n seen from (Some (Waiting w.event)) (quiet count) few refl waits (sym still.signal) (sym still.written)
     ∙ ap (λ (u : Thread). rested count (record { device = with_thread n u (with_flags seen d); image = s.image })) (waits_now d.config.events t w.event w.known)
     ∙ ap (λ (f : DeviceValue). rested count (record { device = with_thread n (waiting w.event t) f; image = s.image })) (events_back d h)
     ∙ ap (λ (k : ℕ). rested k (record { device = with_thread n (waiting w.event t) d; image = s.image })) still.one

@@ -11,7 +11,6 @@ ghost use Rattle.std.specs.List.{list_any};
 use crate::config::{BusWidth, Config, NewFault};
 use crate::device::registers::any_faulting;
 use crate::thread::Thread;
-use dma_mem::marks::Marks;
 use std::alloc::{AllocError, Global};
 use std::marker::Model;
 
@@ -44,8 +43,6 @@ pub struct Device {
     dbginst1: u32,
     manager: Manager,
     threads: Vec<Thread>,
-    // Always empty.
-    marks: Marks,
 }
 
 impl Model for Device {
@@ -131,7 +128,6 @@ impl Device {
                 fault: 0,
             },
             threads,
-            marks: Marks::new(alloc),
         })
     }
 

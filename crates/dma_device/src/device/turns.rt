@@ -10,6 +10,7 @@ use dma_chan::lent::step_regions;
 use dma_chan::written::joined;
 use dma_insn::insn::Event;
 use dma_mem::events::Events;
+use dma_mem::marks::Marks;
 use dma_mem::regions::Region;
 use dma_mem::segment::Segment;
 
@@ -107,8 +108,9 @@ impl Device {
     {
         let config = self.config;
         let mut events = Events::from_bits(self.visible_events());
+        let marks = Marks::new(*self.threads.allocator());
         let thread = &mut self.threads[n];
-        let taken = step_regions(&mut thread.channel, regions, &mut events, &self.marks, most);
+        let taken = step_regions(&mut thread.channel, regions, &mut events, &marks, most);
         thread.answer(config.events, taken.last, taken.signal);
         self.set_flags(events.bits());
         Called {

@@ -1,13 +1,14 @@
-use Rattle.std.proofs.Common.{◌≡◌, ◌∙◌, ◌^◌, ◌<◌, Some, ap, refl, rules, subst, sym, arith}
+use Rattle.std.proofs.Common.{◌≡◌, ◌∙◌, ◌^◌, ◌<◌, Option, Some, ap, refl, rules, subst, sym, arith}
 use Rattle.std.proofs.lemmas.Grind.{common_steps}
 use Rattle.std.specs.Prelude.{slice_get}
-use Rattle.dma_mem.specs.Flags.{flags_of}
+use Rattle.dma_mem.specs.{Flags.flags_of, Regions.image_of, Regions.pieces_of}
 use Rattle.dma_mem.proofs.Steps.{taken_few}
-use Rattle.dma_chan.specs.{declared.bus.Bus.TheVariants.Chip, Bus.fits, Channel.ChannelValue, Stepping.Machine}
+use Rattle.dma_chan.specs.{declared.bus.Bus.TheVariants.Chip, Bus.fits, Channel.ChannelValue, Stepping.Machine, Stepping.machine}
 use Rattle.dma_chan.proofs.BusKept.{steps_bus}
-use Rattle.dma_device.specs.{Device.DeviceValue, Device.with_thread, Thread.IsOn, Thread.IsSound, Thread.answered, Turns.visible_events, Turns.with_flags}
-use Rattle.dma_device.specs.{inner.Fields.device_value}
-use Rattle.dma_device.proofs.{Answered.answer_channel, Calls.called_is, Found.found_running, Sound.steps_fit, Sound.answered_sound, Sound.with_new}
+use Rattle.dma_device.specs.{Device.DeviceValue, Device.with_thread, Thread.IsOn, Thread.IsSound, Thread.answered, inner.Fields.device_value}
+use Rattle.dma_device.specs.Turns.{called, outcome_of, setup_of, visible_events, with_flags}
+use Rattle.dma_device.specs.{CallSteps.marks_in, declared.device.turns.Called.Called, declared.thread.Thread.Thread}
+use Rattle.dma_device.proofs.{Answered.answer_channel, Calls.stepped_is, Found.found_running, Sound.steps_fit, Sound.answered_sound, Sound.with_new}
 use Rattle.dma_device.proofs.device.Device.call.Goals as goal
 
 pub invariant_of-self : goal.invariant_of-self
@@ -35,17 +36,24 @@ returns-clause-few c = grind (arith, common_steps, taken_few)
 pub returns-clause-calls : goal.returns-clause-calls
 returns-clause-calls c =
     let d = c.args.self.now in
-    let t = c.index_mut-thread.result.now in
-    let taken = c.step_regions-taken in
     let n = c.args.n in
+    let t = c.index_mut-thread.result.now in
+    let old = c.args.regions.now in
+    let new = c.step_regions-taken.new in
+    let did = c.step_regions-taken.result in
+    let x = c.step_regions-taken.ensures in
+    let made : Called = record { written = did.written; signal = did.signal; taken = did.count } in
     let view : device_value c.self.inside ≡ d = c.self.view_is in
     let found : slice_get d.threads n ≡ Some t = ap (λ (v : DeviceValue). slice_get v.threads n) (sym view)
     ∙ found_running d (device_value c.self.inside) n t view c.requires.runs c.index_mut-thread.ensures.value in
     let seen : c.from_bits-events.result ≡ flags_of (visible_events d) = c.from_bits-events.ensures ∙ ap flags_of c.visible_events.ensures in
     let few : c.bits.result < 2 ^ 32 = omega arith in
-    let device : c.set_flags.new.self ≡ with_thread c.args.n
-    (answered d.config.events (record t { channel = taken.new.channel }) taken.result.last taken.result.signal) (with_flags c.bits.result d) =
-    search rules in
-    called_is d c.set_flags.new.self c.args.regions.now taken.new.regions c.args.n c.args.most t c.self.inside.marks c.from_bits-events.result taken.new.events
-    taken.new.channel c.bits.result taken.result found c.self.invariant.marks seen c.bits.ensures few taken.ensures.steps taken.ensures.signal
-    taken.ensures.written device
+    let device : c.set_flags.new.self ≡ with_thread n (answered d.config.events (record t { channel = new.channel }) did.last did.signal)
+    (with_flags c.bits.result d) = search rules in
+    let steps = rw (c.new-marks.ensures, seen) at x.steps in
+    let signal = rw (c.new-marks.ensures, seen) at x.signal in
+    let written = rw (c.new-marks.ensures, seen) at x.written in
+    ap (λ (o : Option Thread). called (marks_in old) n c.args.most o (setup_of d old)) found
+    ∙ stepped_is (marks_in old) c.args.most t (setup_of d old) n c.bits.result (machine new.channel (image_of (pieces_of new.regions)) new.events) did.last made
+    few (sym c.bits.ensures) steps signal written
+    ∙ ap (λ (e : DeviceValue). outcome_of e new.regions made) (sym device)

@@ -33,10 +33,9 @@ pub invariant_of-self : goal.invariant_of-self
 invariant_of-self c =
     let d = c.self.inside in
     let new = c.restore_threads.new.threads in
-    let known = c.self.invariant.sound.known in
-    with_parts d new d.manager _ _ _ d.dbginst0 d.dbginst1 c.self.invariant (same_length (goal.at.invariant_of-self c).After-restore_threads)
+    with_parts d _ new c.self.invariant refl refl (same_length (goal.at.invariant_of-self c).After-restore_threads)
     (c.restore_threads.auto.threads ∙ ap length c.deref_mut.ensures.value) c.restore_threads.ensures.sound
-    (are_on d.config.bus new c.restore_threads.ensures.on) known.events known.interrupts known.inten
+    (are_on d.config.bus new c.restore_threads.ensures.on) c.self.invariant.sound.known
 
 -- the threads of the device whose parts these are
 restored : (c : After-restore_threads) (d : DeviceValue) → IsDeviceValue d → d.config ≡ c.args.self.now.config → c.args.save.now ≡ parts_in c.args.version d
@@ -54,8 +53,9 @@ invariant_of-self-2 c =
     let new = c.restore_threads.new.threads in
     let len : length new ≡ d.threads.len = omega (arith, c.restore_threads.auto.threads, c.deref_mut.ensures.len) in
     let known = known_on c.in-Some.head d.config c.in-Some.ensures.config c.in-Some.ensures.known in
-    with_parts d new _ _ _ _ _ _ c.self.invariant len (c.restore_threads.auto.threads ∙ ap length c.deref_mut.ensures.value) c.restore_threads.ensures.sound
-    (are_on d.config.bus new c.restore_threads.ensures.on) known.events known.interrupts known.inten
+    with_parts d _ new c.self.invariant refl refl len (c.restore_threads.auto.threads ∙ ap length c.deref_mut.ensures.value)
+    c.restore_threads.ensures.sound (are_on d.config.bus new c.restore_threads.ensures.on)
+    (record { events = known.events; interrupts = known.interrupts; inten = known.inten })
 
 pub returns-clause-ok : goal.returns-clause-ok
 unfolding parts_in
