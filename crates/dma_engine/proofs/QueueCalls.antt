@@ -9,7 +9,7 @@ use Rattle.dma_engine.specs.declared.entry.Entry.TheVariants.{Submitted, Issued}
 use Rattle.dma_engine.specs.Object.{Object, ChannelState, after, channel, with_transfer, no_transfer, used, with_channel}
 use Rattle.dma_engine.specs.View.{View, ChannelSchedule, runs, running_in, running, IsSound}
 use Rattle.dma_engine.specs.Answer.{with_pause, submit_fault}
-use Rattle.dma_engine.specs.inner.Holds.{Holds, IsPrepared, IsQueue, Parts, queue_submitted, view_of, schedule_of, HasSubmitted, object_in, state_in}
+use Rattle.dma_engine.specs.inner.Holds.{Holds, IsPrepared, IsQueue, Parts, queue_submitted, view_of, schedule_of, HasSubmitted, object_in, runs_in, state_in}
 use Rattle.dma_engine.specs.{declared.entry.Entry.Entry, declared.queue.Queue.Queue, declared.access.Ranges.Ranges, Turn.with_entry, inner.Ranges.AreOfRunning}
 use Rattle.dma_engine.proofs.Changes.{LeadsTo, changed, holds_changed, leads_on, leads_still, run_moved, runs_here_law, runs_other, schedule_kept}
 use Rattle.dma_engine.proofs.Changes.{submitted_kept, view_changed}
@@ -33,7 +33,7 @@ module _ {p : Parts} {ch : ℕ} {q : Queue} (at : HoldsAt p ch q) where
     leads : LeadsTo p ch history to state
     image : o.image ≡ to.image
     events : flags ≡ to.events
-    runs_still : running_in ch state (schedule_of r).taken ≡ running_in ch c (schedule_of q).taken
+    runs_still : running_in ch state (schedule_of r).taken ≡ runs_in p ch
     ranges_still : r.ranges ≡ q.ranges
     tied : IsQueue ch (channel p.base ch).submitted history p.memory r state
 
@@ -43,7 +43,7 @@ module _ {p : Parts} {ch : ℕ} {q : Queue} (at : HoldsAt p ch q) where
       let s = v.schedule in
       let x = schedule_of r in
       let still : (d : ℕ) → runs to (slice_set s ch x) d ≡ runs o s d = λ d. elim (cases_eq d ch) [
-        | inl e ↦ rw e (runs_here_law to s ch x at.within ∙ ap (λ y. running_in ch y x.taken) w.leads.here ∙ w.runs_still ∙ sym at.runs_is)
+        | inl e ↦ rw e (runs_here_law to s ch x at.within ∙ ap (λ y. running_in ch y x.taken) w.leads.here ∙ w.runs_still)
         | inr f ↦ runs_other o to s ch d x f (w.leads.others d f)
       ] in
       let same : running to (slice_set s ch x) ≡ running o s = running_same o to s (slice_set s ch x) (sym w.leads.many) (λ d l. still d) in
@@ -53,9 +53,9 @@ module _ {p : Parts} {ch : ℕ} {q : Queue} (at : HoldsAt p ch q) where
         shown = at.holds.shown ∙ shown_both o to s (slice_set s ch x) w.image (sym same);
         events = w.events;
         tied = w.tied;
-        prepared = subst (IsPrepared p.made) (at.runs_is ∙ sym w.runs_still) (at.holds.prepared ch);
+        prepared = subst (IsPrepared p.made) (sym w.runs_still) (at.holds.prepared ch);
         ranges = subst (λ (y : Option Ranges). AreOfRunning y (running_in ch state x.taken)) (sym w.ranges_still)
-            (subst (AreOfRunning q.ranges) (at.runs_is ∙ sym w.runs_still) at.ranges);
+            (subst (AreOfRunning q.ranges) (sym w.runs_still) at.ranges);
         machines = λ d e l k machine. machine;
       })
 
@@ -81,7 +81,7 @@ module _ {p : Parts} {ch : ℕ} {q : Queue} (at : HoldsAt p ch q) where
         leads = leads_still p ch;
         image = refl;
         events = at.holds.events;
-        runs_still = refl;
+        runs_still = sym at.runs_is;
         ranges_still = refl;
         tied = record { submitted = t.submitted; outcomes = t.outcomes; issued = t.issued; halted = t.halted; machine = t.machine };
       })
@@ -97,7 +97,7 @@ module _ {p : Parts} {ch : ℕ} {q : Queue} (at : HoldsAt p ch q) where
 
   -- an entry that changes one channel alone, and not what runs on it
   holds_after : (r : Queue) (e : Entry) (state : ChannelState) → IsSound (with_entry v e) → after o e ≡ with_channel o ch state → schedule_of r ≡ schedule_of q
-      → r.ranges ≡ q.ranges → running_in ch state (schedule_of r).taken ≡ running_in ch c (schedule_of q).taken
+      → r.ranges ≡ q.ranges → running_in ch state (schedule_of r).taken ≡ runs_in p ch
       → IsQueue ch (channel p.base ch).submitted (p.history ++ e ∷ []) p.memory r state → Holds (changed p ch r p.memory p.events (p.history ++ e ∷ []) p.steps)
   holds_after r e state sound is same ranges still tied =
       holds_still r p.events (p.history ++ e ∷ []) (after o e) state (record {
@@ -114,7 +114,7 @@ module _ {p : Parts} {ch : ℕ} {q : Queue} (at : HoldsAt p ch q) where
   holds_issued =
       let t = at.tied in
       holds_after (record q { issued = q.given }) (Issued ch) (record c { issued = used c }) (issue_sound v ch at.holds.sound at.there) refl refl refl
-      (runs_issued ch c (schedule_of q).taken) (record {
+      (runs_issued ch c (schedule_of q).taken ∙ sym at.runs_is) (record {
         submitted = submitted_kept (p.history ++ Issued ch ∷ []) (λ k x. slice_get_push p.history (Issued ch) x k) t.submitted;
         outcomes = t.outcomes;
         issued = t.given;
@@ -156,7 +156,7 @@ module _ {p : Parts} {ch : ℕ} {q : Queue} (at : HoldsAt p ch q) where
       let cookie = used c + 1 in
       let h = at.tied in
       holds_after (queue_submitted q spare (length p.history) cookie) (Submitted ch t cookie) (with_transfer c t)
-      (submit_sound v ch t rules at.holds.sound none) refl refl refl (runs_submitted ch c t (schedule_of q).taken at.agrees) (record {
+      (submit_sound v ch t rules at.holds.sound none) refl refl refl (runs_submitted ch c t (schedule_of q).taken at.agrees ∙ sym at.runs_is) (record {
         submitted = submitted_more t;
         outcomes = h.outcomes;
         issued = h.issued;

@@ -12,8 +12,8 @@ use Rattle.dma_engine.specs.Object.{ChannelState, channel, no_transfer}
 use Rattle.dma_engine.specs.{declared.entry.Entry.Entry, declared.entry.Entry.TheVariants.Submitted}
 use Rattle.dma_engine.specs.{inner.Holds.object_in}
 use Rattle.dma_engine.specs.{declared.queue.Queue.Queue, inner.Inside.queue_room, Room.no_room, Room.KeepsRoom}
-use Rattle.dma_engine.specs.{View.EngineState, View.object_of, inner.Holds.Holds, inner.Holds.IsQueue, inner.Holds.Parts, inner.Holds.view_of}
-use Rattle.dma_engine.proofs.{Changes.changed, Changes.schedule_kept, Changes.view_changed, QueueCalls.holds_paused, Queues.HoldsAt}
+use Rattle.dma_engine.specs.{View.EngineState, View.object_of, inner.Holds.IsQueue, inner.Holds.Parts, inner.Holds.view_of}
+use Rattle.dma_engine.proofs.{Changes.changed, Changes.schedule_kept, Changes.view_changed, Queues.HoldsAt}
 use Rattle.dma_engine.specs.inner.Holds.{state_in}
 
 -- ---- room
@@ -21,15 +21,6 @@ use Rattle.dma_engine.specs.inner.Holds.{state_in}
 -- a queue with other room
 abbrev pub with_room : Queue → ℕ → ℕ → Queue
 with_room q a b = record q { indices = record { items = q.indices.items; spare = a }; outcomes = record { items = q.outcomes.items; spare = b } }
-
-pub holds_room : {p : Parts} {ch : ℕ} {q : Queue} → HoldsAt p ch q → (a b : ℕ) → Holds (changed p ch (with_room q a b) p.memory p.events p.history p.steps)
-holds_room {q = q} at a b = holds_paused at a b q.paused
-
-pub view_room : {p : Parts} {ch : ℕ} {q : Queue} → HoldsAt p ch q → (a b : ℕ)
-    → view_of (changed p ch (with_room q a b) p.memory p.events p.history p.steps) ≡ view_of p
-view_room {p} {ch} {q} at a b =
-    view_changed p ch (with_room q a b) p.memory p.events p.history p.steps
-    ∙ ap (λ s. record (view_of p) { schedule = s }) (schedule_kept at (with_room q a b) refl)
 
 -- the room of a channel is that of its queue
 pub room_at : (queues : List Queue) (ch : ℕ) (q : Queue) → ch < length queues → q ≡ slice_index_or queues ch q
@@ -40,12 +31,18 @@ pub room_set : (queues : List Queue) (ch : ℕ) (q : Queue) → ch < length queu
     → slice_index_or (map queue_room (slice_set queues ch q)) ch no_room ≡ queue_room q
 room_set queues ch q less = grind (arith, map-set, get_or-set_same, length-map)
 
--- every channel's room is kept when one queue is replaced by one with no less room
-pub keeps_room : {p : Parts} {ch : ℕ} {q : Queue} → HoldsAt p ch q → (r : Queue) (entries : ℕ) (e f : EngineState)
-    → record { view = view_of p; memory = p.memory; room = record { entries = entries; queues = map queue_room p.queues } } ≡ e
-    → object_of f.view ≡ object_in p → entries ≤ f.room.entries → f.room.queues ≡ map queue_room (slice_set p.queues ch r)
-    → q.indices.spare ≤ r.indices.spare → q.outcomes.spare ≤ r.outcomes.spare → KeepsRoom e f
-keeps_room {p} {ch} {q} at r entries e f is object more queues indices outcomes d h = grind (arith, cases_eq, room_at, room_set, map-set, get_or-set_other)
+module _ {p : Parts} {ch : ℕ} {q : Queue} (at : HoldsAt p ch q) where
+  pub view_room : (a b : ℕ) → view_of (changed p ch (with_room q a b) p.memory p.events p.history p.steps) ≡ view_of p
+  view_room a b =
+      view_changed p ch (with_room q a b) p.memory p.events p.history p.steps
+      ∙ ap (λ s. record (view_of p) { schedule = s }) (schedule_kept at (with_room q a b) refl)
+
+  -- every channel's room is kept when one queue is replaced by one with no less room
+  pub keeps_room : (r : Queue) (entries : ℕ) (e f : EngineState)
+      → record { view = view_of p; memory = p.memory; room = record { entries = entries; queues = map queue_room p.queues } } ≡ e
+      → object_of f.view ≡ object_in p → entries ≤ f.room.entries → f.room.queues ≡ map queue_room (slice_set p.queues ch r)
+      → q.indices.spare ≤ r.indices.spare → q.outcomes.spare ≤ r.outcomes.spare → KeepsRoom e f
+  keeps_room r entries e f is object more queues indices outcomes d h = grind (arith, cases_eq, room_at, room_set, map-set, get_or-set_other)
 
 -- ---- transfers that are found by their indices
 
@@ -92,7 +89,8 @@ transfer_at_all kept history indices n less = elim (cases_lt n (length kept)) [
       let k = n - length kept in
       let at : length kept + k ≡ n = omega (arith, late) in
       let inside : k < length indices = omega (arith, less, late) in
-      let right : slice_index_or (transfers_in kept history indices) n no_transfer ≡ transfer_in history (slice_index indices k) = grind (arith, get_or-append-add, get_or-map) in
+      let right : slice_index_or (transfers_in kept history indices) n no_transfer ≡ transfer_in history (slice_index indices k) =
+      grind (arith, get_or-append-add, get_or-map) in
       rw e (given-is (slice_get history (slice_index indices k)) ∙ sym right)
 ] where
   given-is : (o : Option Entry) → unwrap_or (given_by o) no_transfer ≡ transfer_of o

@@ -29,6 +29,10 @@ range addr len = record { addr = addr; len = len }
 abbrev copy : ℕ → ℕ → ℕ → Descriptor
 copy from to n = record { fill = false; src = range from n ∷ []; dst = range to n ∷ []; wait = None; signal = None }
 
+-- it, submitted to channel 0
+abbrev submit : ℕ → ℕ → ℕ → Call
+submit from to n = Submit 0 (copy from to n)
+
 abbrev byte : ℕ → ℕ → Option ℕ → Option ℕ → Descriptor
 byte from to wait signal = record (copy from to 1) { wait = wait; signal = signal }
 
@@ -103,7 +107,7 @@ fails_after_its_second_byte = (refl, ((λ waits. waits), refl, omega arith, refl
 -- ---- answers
 
 held_by_the_lowest : replies 16 3
-    (Submit 0 (copy 0 4 1) ∷ Submit 1 (copy 1 5 1) ∷ Submit 2 (copy 4 8 2) ∷ Issue 0 ∷ Issue 1 ∷ Issue 2 ∷ Step 0 ∷ Step 1 ∷ Step 2 ∷ [])
+    (submit 0 4 1 ∷ Submit 1 (copy 1 5 1) ∷ Submit 2 (copy 4 8 2) ∷ Issue 0 ∷ Issue 1 ∷ Issue 2 ∷ Step 0 ∷ Step 1 ∷ Step 2 ∷ [])
     ≡ Cookie 1 ∷ Cookie 1 ∷ Cookie 1 ∷ Count 1 ∷ Count 1 ∷ Count 1 ∷ Turned (Started 1) ∷ Turned (Started 1) ∷ Turned (Held 0 1) ∷ []
 unfolding opening put after_moves share running
 held_by_the_lowest = refl
@@ -115,17 +119,15 @@ unfolding opening put after_moves share running
 busy_with_a_later_cookie = refl
 
 how_far_a_cookie_is : replies 16 1
-    (Submit 0 (copy 0 4 2) ∷ Terminate 0 ∷ Submit 0 (copy 0 4 2) ∷ Status 0 0 ∷ Status 0 1 ∷ Status 0 2 ∷ Status 0 3 ∷ Status 1 1 ∷ [])
+    (submit 0 4 2 ∷ Terminate 0 ∷ submit 0 4 2 ∷ Status 0 0 ∷ Status 0 1 ∷ Status 0 2 ∷ Status 0 3 ∷ Status 1 1 ∷ [])
     ≡ Cookie 1 ∷ Count 1 ∷ Cookie 2 ∷ State Unknown ∷ State Complete ∷ State InProgress ∷ State Unknown ∷ State Unknown ∷ []
 unfolding opening put after_moves share
 how_far_a_cookie_is = refl
 
 -- three bytes go in bursts of two and one; the first is stored when the channel is terminated
 residues_of_a_terminate : replies 16 1
-    (Write 0 (17 ∷ 34 ∷ 51 ∷ []) ∷ Submit 0 (copy 0 8 3) ∷ Submit 0 (copy 0 4 2) ∷ Issue 0 ∷ steps 7 ++ Terminate 0 ∷ ResultOf 0 1 ∷ ResultOf 0 2 ∷
-    ResultOf 0 3 ∷ Read 8 3 ∷ [])
-    ≡ Done ∷ Cookie 1 ∷ Cookie 2 ∷ Count 2 ∷ Turned (Started 1) ∷ moved 6 ++ Count 2 ∷ aborted 1 ∷ aborted 2 ∷ Resulted None ∷
-    Bytes (17 ∷ 34 ∷ 0 ∷ []) ∷ []
+    (Write 0 (17 ∷ 34 ∷ 51 ∷ []) ∷ submit 0 8 3 ∷ submit 0 4 2 ∷ Issue 0 ∷ steps 7 ++ Terminate 0 ∷ ResultOf 0 1 ∷ ResultOf 0 2 ∷ ResultOf 0 3 ∷ Read 8 3 ∷ [])
+    ≡ Done ∷ Cookie 1 ∷ Cookie 2 ∷ Count 2 ∷ Turned (Started 1) ∷ moved 6 ++ Count 2 ∷ aborted 1 ∷ aborted 2 ∷ Resulted None ∷ Bytes (17 ∷ 34 ∷ 0 ∷ []) ∷ []
 unfolding opening put after_moves share running member members stored_after burst meets_mark parts beat_of bits_of end_bits burst_at
 residues_of_a_terminate = refl
 
@@ -145,20 +147,20 @@ unfolding opening put after_moves share running member members
 one_event_lets_one_pass = refl
 
 a_failed_load_halts : replies 16 1
-    (Mark Reading (range 0 1) ∷ Submit 0 (copy 0 4 1) ∷ Submit 0 (copy 1 4 1) ∷ Issue 0 ∷ steps 6 ++ Terminate 0 ∷ Step 0 ∷ [])
+    (Mark Reading (range 0 1) ∷ submit 0 4 1 ∷ submit 1 4 1 ∷ Issue 0 ∷ steps 6 ++ Terminate 0 ∷ Step 0 ∷ [])
     ≡ Done ∷ Cookie 1 ∷ Cookie 2 ∷ Count 2 ∷ Turned (Started 1) ∷ moved 3 ++ Turned (TurnFinished 1 ReadFailed 1) ∷ Turned Halted ∷ Count 1 ∷ Turned Nothing ∷
     []
 unfolding opening put after_moves share running member members stored_after burst meets_mark parts beat_of bits_of end_bits burst_at
 a_failed_load_halts = refl
 
 other_kind_stops_nothing : replies 16 1
-    (Mark Writing (range 0 1) ∷ Submit 0 (copy 0 4 1) ∷ Issue 0 ∷ steps 5)
+    (Mark Writing (range 0 1) ∷ submit 0 4 1 ∷ Issue 0 ∷ steps 5)
     ≡ Done ∷ Cookie 1 ∷ Count 1 ∷ Turned (Started 1) ∷ moved 4
 unfolding opening put after_moves share running member members stored_after burst meets_mark parts beat_of bits_of end_bits burst_at
 other_kind_stops_nothing = refl
 
 a_copy_to_its_end : replies 16 1
-    (Write 0 (17 ∷ []) ∷ Submit 0 (copy 0 4 1) ∷ Step 0 ∷ Issue 0 ∷ Pause 0 ∷ Step 0 ∷ Resume 0 ∷ steps 10 ++ Read 4 1 ∷ Step 1 ∷ [])
+    (Write 0 (17 ∷ []) ∷ submit 0 4 1 ∷ Step 0 ∷ Issue 0 ∷ Pause 0 ∷ Step 0 ∷ Resume 0 ∷ steps 10 ++ Read 4 1 ∷ Step 1 ∷ [])
     ≡ Done ∷ Cookie 1 ∷ Turned Nothing ∷ Count 1 ∷ Done ∷ Turned Paused ∷ Done ∷ Turned (Started 1) ∷ moved 7 ++ Turned (TurnFinished 1 NoError 0) ∷
     Turned Nothing ∷ Bytes (17 ∷ []) ∷ Refused NoChannel ∷ []
 unfolding opening put after_moves share running member members stored_after burst meets_mark parts beat_of bits_of end_bits burst_at
@@ -232,7 +234,7 @@ not_beyond_256_bytes allowed = eqb-false 0 0 (sym allowed.1.3) refl
 
 -- a view on which a byte's copy runs, at this step count
 abbrev after_steps : ℕ → View
-after_steps n = record ((answers (new_view 16 1) (Submit 0 (copy 0 4 1) ∷ Issue 0 ∷ Step 0 ∷ [])).1) { steps = n }
+after_steps n = record ((answers (new_view 16 1) (submit 0 4 1 ∷ Issue 0 ∷ Step 0 ∷ [])).1) { steps = n }
 
 the_last_step : (answer (after_steps 18446744073709551614) (Step 0)).0 ≡ Turned Moved
 unfolding opening put after_moves share running member members stored_after burst meets_mark parts beat_of bits_of end_bits burst_at
@@ -260,10 +262,10 @@ no_count_above_32_bits = refl
 
 -- a checkpoint forgets how two cookies ended, and keeps the third, which has not run; it fails with `Running` while
 -- that runs
-what_a_checkpoint_forgets : replies 16 1
-    (Submit 0 (copy 0 4 2) ∷ Submit 0 (copy 0 8 2) ∷ Terminate 0 ∷ Submit 0 (copy 0 4 2) ∷ Checkpoint ∷ ResultOf 0 2 ∷ Status 0 2 ∷ Status 0 3 ∷ Status 0 4 ∷
-    Issue 0 ∷ Submit 0 (copy 0 8 2) ∷ Step 0 ∷ Checkpoint ∷ [])
+forgotten_cookies : replies 16 1
+    (submit 0 4 2 ∷ submit 0 8 2 ∷ Terminate 0 ∷ submit 0 4 2 ∷ Checkpoint ∷ ResultOf 0 2 ∷ Status 0 2 ∷ Status 0 3 ∷ Status 0 4 ∷ Issue 0 ∷ submit 0 8 2 ∷
+    Step 0 ∷ Checkpoint ∷ [])
     ≡ Cookie 1 ∷ Cookie 2 ∷ Count 2 ∷ Cookie 3 ∷ Done ∷ Resulted None ∷ State Complete ∷ State InProgress ∷ State Unknown ∷ Count 1 ∷ Cookie 4 ∷
     Turned (Started 3) ∷ Refused (Running 0 3) ∷ []
 unfolding opening put after_moves share running
-what_a_checkpoint_forgets = refl
+forgotten_cookies = refl

@@ -186,9 +186,9 @@ module _ {p : Parts} {ch : ℕ} {q : Queue} (at : HoldsAt p ch q) where
         shown_both old o s t (sym nothing) (sym same)
 
   -- What an engine keeps after such a change.
-  holds_ended : (r : Queue) (e : Entry) (steps : ℕ) (state : ChannelState) → IsSound (view_of (changed p ch r p.memory p.events (p.history ++ e ∷ []) steps))
-      → after old e ≡ with_channel (with_front_laid old ch (done_on v ch)) ch state → ((schedule_of r).taken ≡ None) × (r.ranges ≡ None)
-      → IsQueue ch (channel p.base ch).submitted (p.history ++ e ∷ []) p.memory r state → Holds (changed p ch r p.memory p.events (p.history ++ e ∷ []) steps)
+  holds_ended : (r : Queue) (e : Entry) (steps : ℕ) (state : ChannelState) → let to = changed p ch r p.memory p.events (p.history ++ e ∷ []) steps in
+      IsSound (view_of to) → after old e ≡ with_channel (with_front_laid old ch (done_on v ch)) ch state → ((schedule_of r).taken ≡ None) × (r.ranges ≡ None)
+      → IsQueue ch (channel p.base ch).submitted (p.history ++ e ∷ []) p.memory r state → Holds to
   holds_ended r e steps state sound is stopped tied =
       let w = after old e in
       let to = leads_on p ch e state at.there (sym (ap (λ (o : Object). o.marks) is)) (ap (λ (o : Object). o.channels) is) in
@@ -304,9 +304,13 @@ aborted_more done (t ∷ ts) (suc k) h =
 same_test : (k n first : ℕ) → first + k ≡ n → (k == 0) ≡ (n == first)
 same_test k n first h = grind (arith, eq-eqb, ne_eqb)
 
+-- the outcomes of those from number `first` up to number n
+abbrev aborted_to : ℕ → List Descriptor → ℕ → ℕ → List Outcome
+aborted_to done ts first n = aborted done (take (n - first) (drop first ts))
+
 pub aborted_step : (done : ℕ) (ts : List Descriptor) (first n stored residue : ℕ) (u : Descriptor) (list : List Outcome) → first ≤ n → n < length ts
-    → list ≡ aborted done (take (n - first) (drop first ts)) → u ≡ slice_index_or ts n no_transfer → stored ≡ (if n == first then done else 0)
-    → residue ≡ size_of u - stored → list ++ record { result = Aborted; residue = residue } ∷ [] ≡ aborted done (take (n + 1 - first) (drop first ts))
+    → list ≡ aborted_to done ts first n → u ≡ slice_index_or ts n no_transfer → stored ≡ (if n == first then done else 0)
+    → residue ≡ size_of u - stored → list ++ record { result = Aborted; residue = residue } ∷ [] ≡ aborted_to done ts first (n + 1)
 aborted_step done ts first n stored residue u list low high so_far is part rest =
     let k = n - first in
     let less : k < length (drop first ts) = omega (arith, length-drop first ts) in

@@ -107,7 +107,8 @@ start_fits v ch t x h may some none begun =
     let before : Agrees c None = rw may.3 at (h.fits.each ch may.0) in
     let now : RunningTransfer = record { ch = ch; cookie = finished c + 1; transfer = t; taken = 0 } in
     let there_is : running_in ch c x.taken ≡ Some now = ap (running_in ch c) begun ∙ runs_front ch c t 0 is in
-    let each : (d : ℕ) → d < length o.channels → (y : Option RunningTransfer) → runs o s d ≡ y → IfSome y (λ u. not (is_free_of t u.transfer) ≡ false) = grind (arith, find_none_at) in
+    let each : (d : ℕ) → d < length o.channels → (y : Option RunningTransfer) → runs o s d ≡ y → IfSome y (λ u. not (is_free_of t u.transfer) ≡ false) =
+    grind (arith, find_none_at) in
     record {
       there = may.0;
       agrees = subst (Agrees c) (sym begun) (start_agrees c t (ruled_front v ch t h is).0 may.1 some before);

@@ -86,6 +86,17 @@ impl From<AllocError> for NewFault {
     }
 }
 
+/// Memory ran out.
+#[derive(Clone, Copy, Debug, PartialEq, Eq, Error)]
+#[error("out of memory")]
+pub struct NoMemory;
+
+impl From<AllocError> for NoMemory {
+    fn from(_refused: AllocError) -> NoMemory {
+        NoMemory
+    }
+}
+
 /// Why a transfer was not submitted, with the transfer.
 #[derive(Drop)]
 pub struct SubmitFault {

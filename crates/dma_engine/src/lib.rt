@@ -29,10 +29,9 @@ mod spare_vec;
 pub mod turn;
 
 pub use call::{Call, Reply};
-pub use dma_chan::compile::NoMemory;
 pub use dma_mem::marks::MarkKind;
 pub use engine::Engine;
 pub use entry::{Entry, Signaller};
-pub use fault::{EngineFault, NewFault, SubmitFault};
+pub use fault::{EngineFault, NewFault, NoMemory, SubmitFault};
 pub use outcome::{Outcome, TransResult};
 pub use turn::{Advanced, Running, Status, Turn};

@@ -7,7 +7,7 @@ ghost use Rattle.dma_engine.specs.Laws.{AreSoundAnswers};
 
 use crate::call::{Call, Reply};
 use crate::engine::Engine;
-use dma_chan::compile::NoMemory;
+use crate::fault::NoMemory;
 use std::alloc::Global;
 
 /// Executes the calls in order, and returns one reply for each. Each reply is that of a single-threaded object at its

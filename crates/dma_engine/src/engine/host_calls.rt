@@ -115,7 +115,7 @@ impl Engine {
         self.add_read(addr, len, bytes)
     }
 
-    // Returns the bytes of a read. Nothing changes.
+    // Returns the bytes of a range, or why `read` refuses it. Nothing changes.
     fn bytes_read(&self, addr: u32, len: u32) -> Result<Bytes, EngineFault>
         ensures free { OnOk result (read_fault self.now.view addr len ≡ None) }
         ensures bytes { IfOk result (λ bytes. bytes ≡ bytes_in self.now.view addr len) }

@@ -27,12 +27,6 @@ returns-in_err-replies-clause-memory c = grind (arith, common_steps)
 pub loop-call-init : goal.loop-call-init
 loop-call-init c = grind (arith, common_steps)
 
-pub returns-clause-sound : goal.returns-clause-sound
-returns-clause-sound c = c.loop-call.invariant.sound
-
-pub returns-clause-memory : goal.returns-clause-memory
-returns-clause-memory c = c.loop-call.invariant.memory
-
 pub returns-in_err-replies-clause-refused : goal.returns-in_err-replies-clause-refused
 returns-in_err-replies-clause-refused c = grind (arith, common_steps)
 

@@ -46,27 +46,9 @@ returns-in_err-reserve-clause-answer c =
     (refusal (λ turn. Turned turn) v v (Step c.args.ch) NoMemory c.from_residual.result c.from_residual.ensures.1
     (added_starved p c.self.invariant c.args.ch c.args.entry (rw (← c.self.view_is) at c.requires.adds)))
 
-pub returns-in_err-reserve-clause-room : goal.returns-in_err-reserve-clause-room
-returns-in_err-reserve-clause-room c = rw (← c.self.view_is) (λ room. absurd (omega (arith, room.entry, c.in_err-reserve.ensures.full)))
-
-pub returns-in_err-reserve-clause-kept : goal.returns-in_err-reserve-clause-kept
-returns-in_err-reserve-clause-kept c = rw (← c.self.view_is) (λ _ ch room. absurd (omega (arith, room.entry, c.in_err-reserve.ensures.full)))
-
-pub returns-clause-room : goal.returns-clause-room
-returns-clause-room c = λ _. tt
-
-pub returns-clause-kept : goal.returns-clause-kept
-returns-clause-kept c = λ idle. absurd idle
-
 pub index_mut-queue-requires : goal.index_mut-queue-requires
 index_mut-queue-requires c =
     omega (arith, (rw (← c.self.view_is) at c.requires.due).0, c.from.ensures, many_queues (parts_of c.self.inside) c.self.invariant, c.self.inside.queues.ok.0)
 
-pub push_reserved-requires : goal.push_reserved-requires
-push_reserved-requires c = omega (arith, c.in_ok-reserve.ensures.ok)
-
 pub overflow_add-self : goal.overflow_add-self
 overflow_add-self c = omega (arith, (rw (← c.self.view_is) at c.requires.due).2)
-
-pub invariant_of-self : goal.invariant_of-self
-invariant_of-self c = rw c.reserve.ensures.items c.self.invariant

@@ -59,12 +59,6 @@ index_mut-queue-requires c =
 pub overflow_add-self : goal.overflow_add-self
 overflow_add-self c = omega (arith, (rw (← c.self.view_is) at c.requires.due).2)
 
-pub returns-in-Moved-clause-fails : goal.returns-in-Moved-clause-fails
-returns-in-Moved-clause-fails c = tt
-
-pub returns-in-Moved-clause-still : goal.returns-in-Moved-clause-still
-returns-in-Moved-clause-still c = λ some. absurd cc
-
 pub invariant_of-self-in-Fault : goal.invariant_of-self-in-Fault
 invariant_of-self-in-Fault c = grind (arith, common_steps)
 

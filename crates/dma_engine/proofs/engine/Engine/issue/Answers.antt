@@ -34,17 +34,5 @@ returns-clause-answer c =
 pub index_mut-queue-requires : goal.index_mut-queue-requires
 index_mut-queue-requires c = omega (arith, queue_there c.self.invariant (seen c.self.view_is) c.in_ok-index.ensures.there, c.self.inside.queues.ok.0)
 
-pub invariant_of-self : goal.invariant_of-self
-invariant_of-self c = rw c.reserve.ensures.items c.self.invariant
-
-pub push_reserved-requires : goal.push_reserved-requires
-push_reserved-requires c = omega (arith, c.in_ok-reserve.ensures.ok)
-
-pub returns-in_err-reserve-clause-room : goal.returns-in_err-reserve-clause-room
-returns-in_err-reserve-clause-room c = rw (← c.self.view_is) (λ room. absurd (omega (arith, room.entry, c.in_err-reserve.ensures.full)))
-
-pub returns-clause-room : goal.returns-clause-room
-returns-clause-room c = λ _. tt
-
 pub returns-in_err-reserve-clause-answer : goal.returns-in_err-reserve-clause-answer
 returns-in_err-reserve-clause-answer c = grind (arith, issue_starved)

@@ -2,8 +2,7 @@ use Rattle.std.proofs.Common.{◌≡◌, ◌-◌, ◌<◌, ◌≤◌, ◌∙◌,
 use Rattle.std.specs.Prelude.{map, slice_index_or, slice_set}
 use Rattle.dma_engine.specs.View.{View, EngineState, object_of, state_at}
 use Rattle.dma_engine.specs.{inner.Inside.parts_of, inner.Inside.queue_room, Object.unfinished, Room.no_room, inner.Holds.state_in}
-use Rattle.dma_engine.proofs.Rooms.{holds_room, keeps_room, room_set, view_room}
-use Rattle.dma_engine.proofs.{Queues.HoldsAt, Queues.queue_there, engine.Engine.make_room.Goals.After-index_mut-queue, Queues.seen, Queues.holds_there}
+use Rattle.dma_engine.proofs.{QueueCalls.holds_paused, Rooms.keeps_room, Rooms.room_set, Rooms.view_room, Queues.HoldsAt, Queues.queue_there, engine.Engine.make_room.Goals.After-index_mut-queue, Queues.seen, Queues.holds_there}
 use Rattle.dma_engine.proofs.engine.Engine.make_room.Goals as goal
 
 -- the queue that is read
@@ -13,8 +12,8 @@ read c = holds_there c.self.invariant (seen c.self.view_is) c.in_ok-index.ensure
 pub invariant_of-self-in_err-make_room : goal.invariant_of-self-in_err-make_room
 invariant_of-self-in_err-make_room c =
     rw (c.reserve.ensures.items, c.make_room.ensures.same)
-    (holds_room (read (goal.at.invariant_of-self-in_err-make_room c).After-index_mut-queue) c.make_room.new.self.indices.spare
-    c.make_room.new.self.outcomes.spare)
+    (holds_paused (read (goal.at.invariant_of-self-in_err-make_room c).After-index_mut-queue) c.make_room.new.self.indices.spare
+    c.make_room.new.self.outcomes.spare c.index_mut-queue.result.now.paused)
 
 pub returns-in_err-make_room-clause-view : goal.returns-in_err-make_room-clause-view
 returns-in_err-make_room-clause-view c =
@@ -25,7 +24,8 @@ returns-in_err-make_room-clause-view c =
 pub invariant_of-self-2 : goal.invariant_of-self-2
 invariant_of-self-2 c =
     rw (c.reserve.ensures.items, c.make_room.ensures.same)
-    (holds_room (read (goal.at.invariant_of-self-2 c).After-index_mut-queue) c.make_room.new.self.indices.spare c.make_room.new.self.outcomes.spare)
+    (holds_paused (read (goal.at.invariant_of-self-2 c).After-index_mut-queue) c.make_room.new.self.indices.spare c.make_room.new.self.outcomes.spare
+    c.index_mut-queue.result.now.paused)
 
 pub returns-clause-view : goal.returns-clause-view
 returns-clause-view c =
@@ -64,12 +64,3 @@ returns-clause-kept c =
 
 pub index_mut-queue-requires : goal.index_mut-queue-requires
 index_mut-queue-requires c = omega (arith, queue_there c.self.invariant (seen c.self.view_is) c.in_ok-index.ensures.there, c.self.inside.queues.ok.0)
-
-pub invariant_of-self : goal.invariant_of-self
-invariant_of-self c = rw c.reserve.ensures.items c.self.invariant
-
-pub returns-in_err-reserve-clause-room : goal.returns-in_err-reserve-clause-room
-returns-in_err-reserve-clause-room c = rw (← c.self.view_is) (λ room. absurd (omega (arith, room.entry, c.in_err-reserve.ensures.full)))
-
-pub returns-clause-room : goal.returns-clause-room
-returns-clause-room c = λ _. tt

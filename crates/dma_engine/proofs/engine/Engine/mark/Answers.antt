@@ -10,6 +10,3 @@ invariant_of-self-2 c =
     rw (c.push_reserved.ensures.items, c.reserve.ensures.items, c.in_ok-add.ensures.ok)
     (holds_marked (parts_of c.self.inside) c.args.kind c.args.segment c.self.invariant c.if-segment-eq0.false
     (ltb-false end_of_addresses (c.args.segment.addr + c.args.segment.len) (sym c.if-wraps.ensures)))
-
-pub invariant_of-self : goal.invariant_of-self
-invariant_of-self c = rw c.reserve.ensures.items c.self.invariant

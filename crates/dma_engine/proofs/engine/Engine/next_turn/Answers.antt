@@ -1,13 +1,7 @@
-use Rattle.std.proofs.Common.{rules, arith, refl, sym}
+use Rattle.std.proofs.Common.{arith, refl, sym}
 use Rattle.dma_engine.specs.inner.Inside.{parts_of}
 use Rattle.dma_engine.proofs.{StepCases.spent_turn, Queues.many_queues, Queues.holds_at}
 use Rattle.dma_engine.proofs.engine.Engine.next_turn.Goals as goal
-
-pub next_wait-requires-clause-waits : goal.next_wait-requires-clause-waits
-next_wait-requires-clause-waits c = search rules
-
-pub next_finish-requires : goal.next_finish-requires
-next_finish-requires c = search rules
 
 pub returns-in_default : goal.returns-in_default
 returns-in_default c =

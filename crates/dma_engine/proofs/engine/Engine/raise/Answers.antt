@@ -1,4 +1,3 @@
-use Rattle.std.proofs.Common.{arith}
 use Rattle.dma_engine.specs.inner.Inside.{parts_of}
 use Rattle.dma_engine.proofs.Entries.{holds_raised}
 use Rattle.dma_engine.proofs.engine.Engine.raise.Goals as goal
@@ -7,9 +6,3 @@ pub invariant_of-self-2 : goal.invariant_of-self-2
 invariant_of-self-2 c =
     rw (c.set.ensures, c.push_reserved.ensures.items, c.reserve.ensures.items)
     (holds_raised (parts_of c.self.inside) c.args.event c.self.invariant c.if-event-gt-LAST_EVENT.false)
-
-pub invariant_of-self : goal.invariant_of-self
-invariant_of-self c = rw c.reserve.ensures.items c.self.invariant
-
-pub push_reserved-requires : goal.push_reserved-requires
-push_reserved-requires c = omega (arith, c.in_ok-reserve.ensures.ok)

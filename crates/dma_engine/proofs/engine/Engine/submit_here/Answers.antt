@@ -35,9 +35,6 @@ returns-clause-answer c =
     (submit_done (view_of p) _ i c.args.cookie t (checked_none _ _ _ checked) (checked_cookie _ _ _ checked)
     (view_entered at queue p.memory p.events (Submitted i t c.args.cookie) refl))
 
-pub invariant_of-self : goal.invariant_of-self
-invariant_of-self c = rw c.reserve.ensures.items c.self.invariant
-
 pub index_mut-queue-requires : goal.index_mut-queue-requires
 index_mut-queue-requires c =
     let p = parts_of c.self.inside in

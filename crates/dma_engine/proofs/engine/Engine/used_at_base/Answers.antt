@@ -2,8 +2,5 @@ use Rattle.std.proofs.Common.{arith}
 use Rattle.dma_engine.proofs.Boards.{counts_at}
 use Rattle.dma_engine.proofs.engine.Engine.used_at_base.Goals as goal
 
-pub used-requires : goal.used-requires
-used-requires c = grind arith
-
 pub returns : goal.returns
 returns c = grind (arith, counts_at)

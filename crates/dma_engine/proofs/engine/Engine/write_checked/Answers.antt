@@ -21,6 +21,3 @@ invariant_of-self-2 c =
 
 pub returns-clause-answer : goal.returns-clause-answer
 returns-clause-answer c = grind (arith, seen, write_done)
-
-pub invariant_of-self : goal.invariant_of-self
-invariant_of-self c = rw c.reserve.ensures.items c.self.invariant
