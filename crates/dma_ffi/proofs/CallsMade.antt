@@ -43,41 +43,37 @@ before_fits n started (suc moved) =
           ∙ ap (λ l. start ++ l) (replicate-append-replicate moved 1 (Turned Moved) ∙ ap (λ (k : ℕ). replicate k (Turned Moved)) one)),
     )
 
--- the steps before the last
-before_answers : (v w : View) (ch : ℕ) (a : Advanced) → (answers v (replicate (steps_before a) (Step ch))).0 ≡ replies_before a
-    → w ≡ after_steps v ch (steps_before a) → AreAnswers v (replicate (steps_before a) (Step ch)) (replies_before a) w
-before_answers v w ch a is same = grind (arith, answers_are_answers)
+module _ (v : View) (ch : ℕ) (a : Advanced) (before : (answers v (replicate (steps_before a) (Step ch))).0 ≡ replies_before a) where
+  abbrev u : View
+  u = after_steps v ch (steps_before a)
 
-before_made : (v w : View) (ch : ℕ) (a : Advanced) → (answers v (replicate (steps_before a) (Step ch))).0 ≡ replies_before a
-    → w ≡ after_steps v ch (steps_before a) → Made v (replicate (steps_before a) (Step ch)) (stepped (steps_before a) (turn_before a.started a.moved)) w
-before_made v w ch a is same = (replies_before a, before_fits (steps_before a) a.started a.moved, before_answers v w ch a is same)
+  -- the steps before the last
+  before_answers : (w : View) → w ≡ u → AreAnswers v (replicate (steps_before a) (Step ch)) (replies_before a) w
+  before_answers w same = grind (arith, answers_are_answers)
 
--- a refused step after others, or as the first
-refused_made : (v w : View) (ch : ℕ) (a : Advanced) (fault : EngineFault) (first : Bool)
-    → (answers v (replicate (steps_before a) (Step ch))).0 ≡ replies_before a → StepAnswers (after_steps v ch (steps_before a)) ch (Err fault) w
-    → (steps_before a == 0) ≡ first
-    → (let answer = if first then replied (Refused fault) else stepped (steps_before a) (turn_before a.started a.moved) in
-    Made v (calls_made (ask_steps ch 0) answer) answer w)
-refused_made v w ch a fault true before is none =
-    let zero = eqb-true (steps_before a) 0 none in
-    one_made v w (Step ch) (replied (Refused fault)) (Refused fault, refl, subst (λ (k : ℕ). StepAnswers (after_steps v ch k) ch (Err fault) w) zero is)
-refused_made v w ch a fault false before is some = before_made v w ch a before (refused_stays (after_steps v ch (steps_before a)) w ch fault is)
+  before_made : (w : View) → w ≡ u → Made v (replicate (steps_before a) (Step ch)) (stepped (steps_before a) (turn_before a.started a.moved)) w
+  before_made w same = (replies_before a, before_fits (steps_before a) a.started a.moved, before_answers w same)
 
--- the steps of an advance, by the result of the last
-advance_made : (v w : View) (ch most : ℕ) (a : Advanced) (last : Option (Result Turn EngineFault))
-    → (answers v (replicate (steps_before a) (Step ch))).0 ≡ replies_before a → EndsWith (after_steps v ch (steps_before a)) ch (steps_before a) most last w
-    → Made v (calls_made (ask_steps ch most) (advance_answer a last)) (advance_answer a last) w
-advance_made v w ch most a None before last = before_made v w ch a before last.1
-advance_made v w ch most a (Some (Ok turn)) before last =
-    let u = after_steps v ch (steps_before a) in
-    let calls = replicate (steps_before a) (Step ch) in
-    let replies = replies_before a ++ Turned turn ∷ [] in (
-      replies,
-      (replies_before a, refl),
-      subst (λ (x : List Call). AreAnswers v x replies w) (replicate-append-replicate (steps_before a) 1 (Step ch))
-          (AreAnswers_push v u w calls (replies_before a) (Step ch) (Turned turn) (before_answers v u ch a before refl) last.2),
-    )
-advance_made v w ch most a (Some (Err fault)) before last = refused_made v w ch a fault (steps_before a == 0) before last.2 refl
+  -- a refused step after others, or as the first
+  refused_made : (w : View) (fault : EngineFault) (first : Bool) → StepAnswers u ch (Err fault) w → (steps_before a == 0) ≡ first
+      → (let answer = if first then replied (Refused fault) else stepped (steps_before a) (turn_before a.started a.moved) in
+      Made v (calls_made (ask_steps ch 0) answer) answer w)
+  refused_made w fault true is none = grind (arith, eqb-true, one_made, refl, subst)
+  refused_made w fault false is some = before_made w (refused_stays u w ch fault is)
+
+  -- the steps of an advance, by the result of the last
+  advance_made : (w : View) (most : ℕ) (last : Option (Result Turn EngineFault)) → EndsWith u ch (steps_before a) most last w
+      → Made v (calls_made (ask_steps ch most) (advance_answer a last)) (advance_answer a last) w
+  advance_made w most None last = before_made w last.1
+  advance_made w most (Some (Ok turn)) last =
+      let calls = replicate (steps_before a) (Step ch) in
+      let replies = replies_before a ++ Turned turn ∷ [] in (
+        replies,
+        (replies_before a, refl),
+        subst (λ (x : List Call). AreAnswers v x replies w) (replicate-append-replicate (steps_before a) 1 (Step ch))
+            (AreAnswers_push v u w calls (replies_before a) (Step ch) (Turned turn) (before_answers u refl) last.2),
+      )
+  advance_made w most (Some (Err fault)) last = refused_made w fault (steps_before a == 0) last.2 refl
 
 mark_made : (v w : View) (kind : Option MarkKind) (range : Segment) (answer : Answer) → AnswersMark v kind range answer w → Made v (marking kind range) answer w
 mark_made v w None range answer h = none_made v w answer (subst (λ (a : Answer). AreReplies a []) (sym h.0) refl) h.1
@@ -94,11 +90,9 @@ made v w (ask_call call) answer h = one_made v w call answer h
 made v w (ask_mark kind range) answer h = mark_made v w (mark_kind kind) range answer h
 made v w (ask_submit ch t) answer h = submit_made v w ch t answer h
 made v w (ask_steps ch most) answer (a, h, is) =
-    subst (λ (x : Answer). Made v (calls_made (ask_steps ch most) x) x w) (sym is) (advance_made v w ch most a a.last h.before h.last)
+    subst (λ (x : Answer). Made v (calls_made (ask_steps ch most) x) x w) (sym is) (advance_made v ch a h.before w most a.last h.last)
 made v w (ask_value value) answer h = none_made v w answer (subst (λ (a : Answer). AreReplies a []) (sym h.0) refl) h.1
 
 pub calls_are_the_engines : CallsAreTheEngines
 unfolding Returns
-calls_are_the_engines e request code written (Some e') (answer, answers, is, held, effect) =
-    (answer, answers, is, held, made e.view e'.view request answer answers)
-calls_are_the_engines e request code written None h = absurd h
+calls_are_the_engines x0 x1 x2 x3 x4 x5 = grind (arith, made)

@@ -1,6 +1,6 @@
 -- Calls from C that load a transfer into a channel and step it.
 use Rattle.std.proofs.Common.{◌≡◌, ◌≢◌, ℕ, ◌+◌, ◌-◌, ◌<◌, ◌≤◌, Bool, true, false, ◌||◌, List, [], ◌∷◌, ◌++◌, length, take, Option, Some, None, refl, sym, ap}
-use Rattle.std.proofs.Common.{◌∙◌, subst, arith, inl, inr}
+use Rattle.std.proofs.Common.{◌∙◌, subst, arith}
 use Rattle.std.specs.List.{Contains, list_any}
 use Rattle.std.proofs.lemmas.List.{append-nil}
 use Rattle.dma_insn.specs.AssemblyText.{most_program_bytes}
@@ -12,7 +12,7 @@ use Rattle.dma_chan.specs.declared.turn.ChanTurn.TheVariants.{Waiting, Ended, Fa
 use Rattle.dma_chan.specs.{declared.bus.Bus.TheVariants.Ideal, Channel.ChannelValue, Compiled.compiled, Compiled.cost, Exec.start_on, Others.Misses}
 use Rattle.dma_chan.specs.{Stepping.Machine, Stepping.Wrote, Written.KeepsOutside, Written.LiesIn, declared.lent.Taken.Taken, declared.turn.ChanTurn.ChanTurn}
 use Rattle.dma_chan.specs.{declared.turn.FaultKind.FaultKind}
-use Rattle.dma_explain.specs.Explains.{Explains, HasEvents, IsLoadedWith, cleared, only}
+use Rattle.dma_explain.specs.Explains.{Explains, UsesEventsOf, IsLoadedWith, cleared, only}
 use Rattle.dma_explain.specs.{RegionsHave.HaveAll, Works.MissesAll, declared.explain.Amounts.Amounts}
 use Rattle.dma_explain.proofs.SinceLoads.{channels_copy, cleared_within, copies_since_load}
 use Rattle.dma_explain.proofs.{CompiledExplained.compiled_events, CompiledExplained.compiled_explained, RegionsHave.gaps_miss}
@@ -36,20 +36,17 @@ was_loaded t c d h1 = grind (arith, append-nil, refused)
 was_read : (program : List ℕ) (regions : List Region) (addr : ℕ) (rest : List ℕ) (c d : ChannelValue)
     → take most_program_bytes (run_from (pieces_of regions) addr) ≡ program ++ rest → LoadsFrom regions addr c ok_code d
     → IsLoadedWith (start_on Ideal) program d
-was_read program regions addr rest c d e (inl bad) = absurd (let f = bad.0 in cc)
-was_read program regions addr rest c d e (inr ok) =
-    (record { bytes = take most_program_bytes (run_from (pieces_of regions) addr); cost = None }, (rest, e), ok.2)
+was_read x0 x1 x2 x3 x4 x5 x6 x7 = grind (arith, take)
 
 was_given : (program rest : List ℕ) (c d : ChannelValue) → LoadsBytes (program ++ rest) c ok_code d → IsLoadedWith (start_on Ideal) program d
-was_given program rest c d (inl ok) = (record { bytes = program ++ rest; cost = None }, (rest, refl), ok.2)
-was_given program rest c d (inr bad) = absurd (let f = bad.0 in cc)
+was_given x0 x1 x2 x3 x4 = grind (arith, refl)
 
-compiled_has_events : (t : Descriptor) → IsTransfer t → HasEvents (start_on Ideal) (compiled t).bytes t (cost t - 1)
+compiled_uses_events : (t : Descriptor) → IsTransfer t → UsesEventsOf (start_on Ideal) (compiled t).bytes t (cost t - 1)
 unfolding compiled cost
-compiled_has_events t h = compiled_events (start_on Ideal) t h
+compiled_uses_events t h = compiled_events (start_on Ideal) t h
 
 has_compiled : (t : Descriptor) (c : ChannelValue) → IsTransfer t → IsLoadedWith (start_on Ideal) (compiled t).bytes c → HasTransfer t c
-has_compiled t c h l = record { program = record { explains = compiled_explained t h; loaded = l }; events = compiled_has_events t h }
+has_compiled t c h l = record { program = record { explains = compiled_explained t h; loaded = l }; events = compiled_uses_events t h }
 
 pub loads_a_transfer : LoadsATransfer
 loads_a_transfer = record {
@@ -130,9 +127,7 @@ does_call ch call d = rw (d.3.before, d.3.after) (record { is_loaded = d.3.is_lo
 
 -- the report, by the channel that is left
 reported_by : (call : StepCall) (d : Took call) → call.report ≡ channel_report d.2.count (channel_of call.left).registers.pc d.2.written d.2.last d.2.signal
-reported_by call d =
-    d.3.reported ∙ ap (λ (o : Option MarkedChannel). channel_report d.2.count (marked_of o).channel.registers.pc d.2.written d.2.last d.2.signal)
-    (sym d.3.after)
+reported_by call d = grind (arith, ap, sym)
 
 pub steps_are_calls : StepsAreCalls
 steps_are_calls ch call made ok =
@@ -210,8 +205,8 @@ module _ (program : List ℕ) (n : ℕ) (t : Descriptor) (first memory : ℕ →
       }
 
 -- a signal and a wait are the transfer's, if the program's are
-keeps_events : (program : List ℕ) (n : ℕ) (t : Descriptor) (first memory : ℕ → ℕ) (call : chan.Call) (from : StepCall) → HasEvents (start_on Ideal) program t n
-    → ReportsCopy program n t first memory from call → KeepsEvents t from
+keeps_events : (program : List ℕ) (n : ℕ) (t : Descriptor) (first memory : ℕ → ℕ) (call : chan.Call) (from : StepCall)
+    → UsesEventsOf (start_on Ideal) program t n → ReportsCopy program n t first memory from call → KeepsEvents t from
 keeps_events program n t first memory call from has r = record {
   signals = λ e.
       let s = has.signals from.report.event r.copy.done (r.copy.signals from.report.event (r.signals e)) in

@@ -1,12 +1,12 @@
 -- The accesses that one call from C on an open device makes.
-use Rattle.std.proofs.Common.{◌≡◌, ◌∙◌, ℕ, zero, suc, ◌+◌, ◌-◌, ◌≤◌, ℤ, false, List, Option, Some, None, refl, sym, ap, subst, inl, inr, arith}
+use Rattle.std.proofs.Common.{◌≡◌, ◌∙◌, ℕ, zero, suc, ◌+◌, ◌≤◌, ℤ, false, List, Option, Some, None, refl, sym, ap, subst, inl, inr, arith}
 use Rattle.std.specs.{Prelude.◌||◌, Prelude.if◌then◌else◌, Ordering.int_eq}
 use Rattle.std.proofs.{lemmas.Bool.false≢true, lemmas.Bool.Decides.Decides-int_eq}
 use Rattle.dma_mem.specs.{Regions.pieces_of, Regions.read_only_of, declared.regions.Region.Region}
 use Rattle.dma_device.specs.Accesses.{Access, Answer, AreAlike, Does, Done, Happen, Reads, Resets, Restores, Turned, Turns, Value, Writes}
 use Rattle.dma_device.specs.{Device.DeviceValue, Device.reset_device, RowTurns.TakesRowTurns, RowTurns.report_in, Run.StaysLent}
 use Rattle.dma_device.specs.{declared.device.rows.RowTurns.RowTurns}
-use Rattle.dma_ffi.specs.Codes.{bad_save, ok_code, other_device}
+use Rattle.dma_ffi.specs.Codes.{bad_save, ok_code}
 use Rattle.dma_ffi.specs.DeviceSessions.{AreTurns, Called, DeviceCall, DeviceRequest, History, IsOne, Makes, accesses_for, ask_look, ask_read, ask_reset}
 use Rattle.dma_ffi.specs.DeviceSessions.{ask_restore, ask_rows, ask_turn, ask_write}
 use Rattle.dma_ffi.specs.{declared.device_rows.DeviceRows.DeviceRows, Devices.RestoresDevice, Devices.rows_report_of}
@@ -56,18 +56,7 @@ idle d regions = record { access = λ k. Resets; answer = λ k. Done; before = �
 -- a call that makes no access
 own_none : (d : DeviceValue) (call : DeviceCall) (request : DeviceRequest) (new : Option DeviceValue) → accesses_for request call.code ≡ 0 → new ≡ Some d
     → call.left ≡ call.lent → Makes (idle d call.lent) 0 call request → Own d call request new
-own_none d call request new none same kept makes = (
-  idle d call.lent,
-  record {
-    starts = refl;
-    ends = same;
-    happen = λ k less. absurd (omega (arith, less, none));
-    makes = makes;
-    lends = alike call.lent call.lent refl;
-    leaves = alike call.left call.lent (sym kept);
-    stays = λ k less. absurd (omega (arith, less, none));
-  },
-)
+own_none d call request new none same kept makes = grind (arith, refl, arith, alike, sym)
 
 abbrev before_after : {A : Type 0} → A → A → ℕ → A
 before_after a b zero = a
@@ -118,16 +107,7 @@ in_row d e call n t takes = record {
 
 are_turns : (d e : DeviceValue) (call : DeviceCall) (n : ℕ) (t : RowTurns) (takes : TakesRowTurns d call.lent n e call.left t) → 1 ≤ t.rows.count
     → AreTurns (in_row d e call n t takes) 0 call n t
-are_turns d e call n t takes some = record {
-  some = some;
-  access = λ k less. refl;
-  answer = λ k less. let is : 0 + k ≡ k = omega arith in ap (λ (i : ℕ). Turned (report_in t i)) is;
-  first = takes.first;
-  next = λ k less. let is : 0 + (k + 1) ≡ (0 + k) + 1 = omega arith in ap takes.lent is;
-  last =
-      let is : t.rows.count ≡ (0 + (t.rows.count - 1)) + 1 = omega (arith, some) in
-      subst (λ (i : ℕ). AreAlike (takes.lent i) call.left) is takes.last;
-}
+are_turns d e call n t takes some = grind (arith, refl, arith, ap, subst)
 
 -- a call that takes turns in a row
 own_rows : (d e : DeviceValue) (call : DeviceCall) (n most : ℕ) (before report : DeviceRows) (t : RowTurns) → call.code ≡ ok_code
@@ -165,10 +145,7 @@ own_restored d e call save (inl x) same =
     own_one d e call (ask_restore save) (Restores e) Done (ap if_restored x.0)
     (refl, refl, alike call.lent call.left same, x.1.config, x.1.value)
     (λ ok. is_one d e call (Restores e) Done, λ bad. absurd (apart call.code ok_code bad_save refl x.0 bad))
-own_restored d e call save (inr (inl x)) same =
-    own_none d call (ask_restore save) (Some e) (ap if_restored x.0)
-    (ap (λ (y : DeviceValue). Some y) x.2) same
-    (λ ok. absurd (apart call.code other_device ok_code refl x.0 ok), λ bad. absurd (apart call.code other_device bad_save refl x.0 bad))
+own_restored d e call save (inr (inl x)) same = grind (arith, own_none, ap, apart, refl)
 own_restored d e call save (inr (inr x)) same =
     own_one d e call (ask_restore save) Resets Done (ap if_restored x.0)
     (refl, x.3, alike call.lent call.left same)
@@ -183,9 +160,7 @@ own d call (ask_read at before value) new is =
     (ap (λ (n : ℕ). Value n) is.0.1, refl, alike call.lent call.left is.1)
     (is_one d d call (Reads at) (Value value)))
 own d call (ask_write at value) None is = absurd is.0
-own d call (ask_write at value) (Some e) (inl x, same) =
-    own_none d call (ask_write at value) (Some e) (ap if_ok x.0) (ap (λ (y : DeviceValue). Some y) x.2) same
-    (λ ok. absurd (let is = x.0 in cc))
+own d call (ask_write at value) (Some e) (inl x, same) = grind (arith, own_none, ap)
 own d call (ask_write at value) (Some e) (inr x, same) =
     own_one d e call (ask_write at value) (Writes at value) Done (ap if_ok x.0)
     (refl, x.2, alike call.lent call.left same)
@@ -197,9 +172,7 @@ own d call (ask_turn n most before report) (Some e) (inr x) =
     own_one d e call (ask_turn n most before report) (Turns n most) (Turned x.2.0) (ap if_ok x.0)
     (x.2.0, (refl, x.2.1))
     (λ ok. (x.2.0, x.2.2, is_one d e call (Turns n most) (Turned x.2.0)))
-own d call (ask_rows n most before report) new (inl x) =
-    own_none d call (ask_rows n most before report) new (ap (if_rows report) x.0) x.2 x.3
-    (λ ok. absurd (let is = x.0 in cc))
+own d call (ask_rows n most before report) new (inl x) = grind (arith, own_none, ap)
 own d call (ask_rows n most before report) None (inr x) = absurd x.2
 own d call (ask_rows n most before report) (Some e) (inr x) = own_rows d e call n most before report x.2.turns x.0 x.2.takes x.2.reported x.2.some
 own d call ask_reset new is =

@@ -9,9 +9,7 @@ use Rattle.dma_ffi.proofs.JoinedHistories.{beyond, first_same, happen_joined, jo
 
 -- a call's accesses are not before those of an earlier call
 first_grows : (call : ℕ → DeviceCall) (k n : ℕ) → k ≤ n → first_access call k ≤ first_access call n
-first_grows call k zero most =
-    let is : k ≡ 0 = omega (arith, most) in
-    rw is (omega arith)
+first_grows call k zero most = grind (arith, arith)
 first_grows call k (suc n) most = elim (cases_lt n k) [
   | inl over ↦
       let is : k ≡ suc n = omega (arith, over, most) in

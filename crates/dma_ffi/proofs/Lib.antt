@@ -6,8 +6,8 @@ pub mod Values
 pub mod Heap
 pub mod Sends
 pub mod Casts
+pub mod Transfers
 pub mod Returns
-pub mod OnChannels
 pub mod ChannelCalls
 pub mod DeviceTurns
 pub mod CallsMade

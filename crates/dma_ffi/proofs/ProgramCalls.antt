@@ -1,10 +1,9 @@
--- What the calls return and write that explain and plan.
-use Rattle.std.proofs.Common.{◌≡◌, ◌≢◌, ℕ, zero, suc, ◌<◌, ◌≤◌, ◌↔◌, List, [], ◌∷◌, ◌++◌, length, take, drop, map, Option, Some, None, Result, Ok, Err, ap}
-use Rattle.std.proofs.Common.{subst, arith, inl, inr}
+-- What the calls return and write that explain.
+use Rattle.std.proofs.Common.{◌≡◌, ◌≢◌, ℕ, zero, suc, ◌<◌, ◌≤◌, ◌↔◌, List, [], ◌∷◌, ◌++◌, length, take, drop, map, Option, Some, Result, Ok, Err, ap}
+use Rattle.std.proofs.Common.{arith, inl, inr}
 use Rattle.std.proofs.lemmas.Bool.{cases_lt}
-use Rattle.std.specs.Prelude.{ℤ, IfOk, IfErr, IsErrAnd, IsSomeAnd, slice_index_or, slice_set, unwrap_or}
-use Rattle.dma_mem.specs.{Places.Descriptor, Refusals.refusal_of, declared.transfer.TransferFault.TransferFault}
-use Rattle.dma_chan.specs.{declared.bus.Bus.Bus, declared.exec.Registers.Registers, Channel.ChannelValue}
+use Rattle.std.specs.Prelude.{ℤ, IfOk, IfErr, IsErrAnd, IsSomeAnd, slice_index_or, slice_set}
+use Rattle.dma_chan.specs.{declared.exec.Registers.Registers, Channel.ChannelValue}
 use Rattle.dma_insn.specs.AssemblyText.{most_program_bytes}
 use Rattle.dma_explain.specs.{Explains.Finds, Explains.Refuses, declared.explain.Cause.TheVariants.NoMemory, declared.explain.Cause.TheVariants.TooLong}
 use Rattle.dma_explain.specs.{declared.explain.Explained.Explained}
@@ -12,8 +11,7 @@ use Rattle.dma_device.specs.Explaining.{FailsFor, FindsFor, channel_of}
 use Rattle.dma_device.specs.declared.device.explain.ExplainFault.TheVariants.{NoChannel, NoProgram, Unexplained}
 use Rattle.dma_device.specs.{Device.DeviceValue, declared.device.explain.ExplainFault.ExplainFault}
 use Rattle.dma_ffi.specs.Explaining.{ExplainsChannel, ExplainsFrom, ExplainsProgram}
-use Rattle.dma_ffi.specs.{Calls.ReadsOpen, Programs.PlansTransfer, inner.Found.AnswersProgram, inner.Found.AnswersDevice, inner.Plans.PlansMade}
-use Rattle.dma_mem.specs.declared.transfer.TransferFault.TheVariants as transfers
+use Rattle.dma_ffi.specs.{Calls.ReadsOpen, inner.Found.AnswersProgram, inner.Found.AnswersDevice}
 use Rattle.dma_explain.specs.declared.explain.Unexplained.{Unexplained as Refusal}
 
 -- ---- lists
@@ -40,21 +38,18 @@ module _ {Out : Type 0} (Writes : Explained → ℤ → Out → Out → Type 0) 
   from_start (Err u) ok short err (inr (inl h)) = inr (inr (h.1, h.2))
   from_start (Err u) ok short err (inr (inr h)) = inr (inl (u, err h.1, h.2, h.3))
 
-  fits : (found : Result Explained Refusal) → (IsErrAnd found (λ u. u.cause ≡ TooLong) ↔ most_program_bytes < length program)
-      → ¬ IsErrAnd found (λ u. u.cause ≡ TooLong) → length program ≤ most_program_bytes
-  fits found long none = elim (cases_lt most_program_bytes (length program)) [ inl less ↦ absurd (none (long.1 less)) | inr le ↦ le ]
+  module _ (found : Result Explained Refusal) (ok : IfOk found (λ x. Finds start program most x))
+      (err : IfErr found (λ u. u.cause ≢ NoMemory → u.cause ≢ TooLong → Refuses start program most u))
+      (long : IsErrAnd found (λ u. u.cause ≡ TooLong) ↔ most_program_bytes < length program)
+      (answers : AnswersProgram Writes causes found code before after) where
+    fits : ¬ IsErrAnd found (λ u. u.cause ≡ TooLong) → length program ≤ most_program_bytes
+    fits none = elim (cases_lt most_program_bytes (length program)) [ inl less ↦ absurd (none (long.1 less)) | inr le ↦ le ]
 
-  here : (found : Result Explained Refusal) → IfOk found (λ x. Finds start program most x)
-      → IfErr found (λ u. u.cause ≢ NoMemory → u.cause ≢ TooLong → Refuses start program most u)
-      → (IsErrAnd found (λ u. u.cause ≡ TooLong) ↔ most_program_bytes < length program) → AnswersProgram Writes causes found code before after
-      → ExplainsProgram Writes causes program (Some start) most code before after
-  here found h1 h2 h3 h4 = grind (arith, fits, from_start)
+    here : ExplainsProgram Writes causes program (Some start) most code before after
+    here = grind (arith, fits, from_start)
 
-  pub explains_program : (given : Option Registers) (found : Result Explained Refusal) → Some start ≡ given → IfOk found (λ x. Finds start program most x)
-      → IfErr found (λ u. u.cause ≢ NoMemory → u.cause ≢ TooLong → Refuses start program most u)
-      → (IsErrAnd found (λ u. u.cause ≡ TooLong) ↔ most_program_bytes < length program) → AnswersProgram Writes causes found code before after
-      → ExplainsProgram Writes causes program given most code before after
-  explains_program given found same ok err long h = grind (arith, here)
+    pub explains_program : (given : Option Registers) → Some start ≡ given → ExplainsProgram Writes causes program given most code before after
+    explains_program given same = grind (arith, here)
 
 -- ---- a device's channel
 
@@ -73,28 +68,9 @@ module _ {Out : Type 0} (Writes : Explained → ℤ → Out → Out → Type 0) 
       (λ start program finds. from_start Writes causes start program most code before after (Ok x) finds tt tt h) ok))
   explains_channel d (Err NoChannel) ok err h = inl (h.0, err, h.1)
   explains_channel d (Err NoProgram) ok err h = inr (inl (h.0, err.0, err.1, h.1))
-  explains_channel d (Err (Unexplained u)) ok err h =
-      inr (inr (with_program (channel_of d n) (λ start program. (u.cause ≢ TooLong) × (u.cause ≢ NoMemory → Refuses start program most u))
-      (λ start program. ExplainsFrom Writes causes start program most code before after)
-      (λ start program fails. from_start Writes causes start program most code before after (Err u) tt fails.0 fails.1 h) err))
+  explains_channel d (Err (Unexplained u)) ok err h = grind (arith, inr, with_program, from_start)
 
   pub explains_on_device : (old new : Option DeviceValue) (d : DeviceValue) (found : Result Explained ExplainFault) → Some d ≡ old → new ≡ Some d
       → IfOk found (λ x. FindsFor d n most x) → IfErr found (λ fault. FailsFor d n most fault) → AnswersDevice Writes causes found code before after
       → ReadsOpen (ExplainsChannel Writes causes n most) old code before after new
   explains_on_device old new d found was is ok err h = grind (arith, explains_channel)
-
--- ---- plans
-
-plans : (t : Descriptor) (bus : Bus) (code : ℤ) (buffer out : List ℕ) (len written : ℕ) (made : Result Descriptor TransferFault) → IfOk made (λ x. x ≡ t)
-    → IfOk made (λ x. refusal_of x ≡ None) → IfErr made (λ fault. fault ≡ unwrap_or (refusal_of t) transfers.NoMemory)
-    → PlansMade made bus code buffer out len written → PlansTransfer t (Some bus) code buffer out len written
-plans t bus code buffer out len written made h1 h2 h3 h4 = grind (arith, here)
-
-pub plans_transfer : (t t' : Descriptor) (bus : Bus) (given : Option Bus) (code : ℤ) (buffer out : List ℕ) (len written : ℕ)
-    (made : Result Descriptor TransferFault) → t ≡ t' → Some bus ≡ given → IfOk made (λ x. x ≡ t) → IfOk made (λ x. refusal_of x ≡ None)
-    → IfErr made (λ fault. fault ≡ unwrap_or (refusal_of t) transfers.NoMemory) → PlansMade made bus code buffer out len written
-    → PlansTransfer t' given code buffer out len written
-plans_transfer t t' bus given code buffer out len written made same bus_is is none err h =
-    subst (λ (b : Option Bus). PlansTransfer t' b code buffer out len written) bus_is
-    (subst (λ (d : Descriptor). PlansTransfer d (Some bus) code buffer out len written) same
-    (plans t bus code buffer out len written made is none err h))

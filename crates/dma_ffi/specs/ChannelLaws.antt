@@ -8,7 +8,7 @@ use Rattle.dma_chan.specs.{declared.bus.Bus.TheVariants.Ideal, declared.turn.Cha
 use Rattle.dma_chan.specs.{Channel.ChannelValue, Channel.unloaded, Compiled.compiled, Compiled.cost, Exec.start_on, Others.Misses, Stepping.Machine}
 use Rattle.dma_chan.specs.{Stepping.Wrote, Stepping.machine, Written.KeepsOutside, Written.LiesIn}
 use Rattle.dma_explain.specs.Changes.{Call, Change, DoesAll, DoesCall, HasCopied, HaveWorks, IsApart, LeavesAlone, SinceLoad, System}
-use Rattle.dma_explain.specs.Explains.{Explains, HasEvents, IsLoadedWith, Work, only}
+use Rattle.dma_explain.specs.Explains.{Explains, UsesEventsOf, IsLoadedWith, Work, only}
 use Rattle.dma_explain.specs.{declared.explain.Amounts.Amounts, RegionsHave.HaveAll}
 use Rattle.dma_ffi.specs.Channels.{Lent, LoadsBytes, LoadsFrom, LoadsTransfer, ReportsSteps, are_usable, channel_report, ended_turn, fault_turn, marks_over}
 use Rattle.dma_ffi.specs.Channels.{signalled_turn, waiting_turn}
@@ -26,7 +26,7 @@ pub record HasExplained (program : List ℕ) (n : ℕ) (t : Descriptor) (c : Cha
 -- events.
 pub record HasTransfer (t : Descriptor) (c : ChannelValue) : Type 0 where
   pub program : HasExplained (compiled t).bytes (cost t - 1) t c
-  pub events : HasEvents (start_on Ideal) (compiled t).bytes t (cost t - 1)
+  pub events : UsesEventsOf (start_on Ideal) (compiled t).bytes t (cost t - 1)
 
 -- A load that returns `ok_code` gives the channel a program that a transfer explains: a load of a copy, or of a fill
 -- with one source byte; or of bytes, or from memory, if these begin with a program that the transfer explains.
@@ -161,4 +161,4 @@ pub record StepsCopy : Type 0 where
       IsCallOf call.channel from call →
       ReportsCopy program n t (states load).memory (states (now + 1)).memory from call
   pub events : (program : List ℕ) (n : ℕ) (t : Descriptor) (first memory : ℕ → ℕ) (call : Call) (from : StepCall) →
-      HasEvents (start_on Ideal) program t n → ReportsCopy program n t first memory from call → KeepsEvents t from
+      UsesEventsOf (start_on Ideal) program t n → ReportsCopy program n t first memory from call → KeepsEvents t from

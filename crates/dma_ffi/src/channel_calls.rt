@@ -6,13 +6,13 @@
 ghost use Rattle.std.specs.Prelude.{◌≡◌, None};
 ghost use Rattle.dma_mem.specs.Places.{copying, filling};
 ghost use Rattle.dma_ffi.specs.Calls.{Becomes, OnOpen, WritesSave, WritesValue};
-ghost use Rattle.dma_ffi.specs.Channels.{FitsSave, LoadsBytes, LoadsFrom, LoadsTransfer, MarksRange, OnChannel, Opens, RestoresChannel, are_usable, registers_of, save_of, stopped, unmarked};
+ghost use Rattle.dma_ffi.specs.Channels.{FitsSave, LoadsBytes, LoadsFrom, LoadsTransfer, MarksRange, OnChannel, Opens, RestoresChannel, registers_of, save_of, stopped, unmarked};
 ghost use Rattle.dma_ffi.specs.Codes.{event_of, mark_kind};
 ghost use Rattle.dma_ffi.specs.inner.Loads.{LoadsMade};
 
 use crate::codes::{
     ALREADY_OPEN, BAD_KIND, BAD_RANGE, BAD_REGIONS, BAD_SAVE, BUFFER_TOO_SMALL, NO_MEMORY,
-    NOT_OPEN, OK, PROGRAM_TOO_LONG, code_of_transfer, event_of, found, kind_of,
+    NOT_OPEN, OK, PROGRAM_TOO_LONG, are_usable, code_of_transfer, event_of, found, kind_of,
 };
 use crate::kept_channel::KeptChannel;
 use crate::marked_channel::MarkedChannel;
@@ -22,13 +22,10 @@ use dma_chan::compile::compile;
 use dma_chan::exec::Registers;
 use dma_chan::program::MAX_PROGRAM_BYTES;
 use dma_mem::marks::Marks;
-use dma_mem::regions::{Region, are_in_order};
+use dma_mem::regions::Region;
 use dma_mem::segment::Segment;
 use dma_mem::transfer::{Transfer, TransferFault};
 use std::alloc::Global;
-
-/// The maximum number of regions.
-const MAX_REGIONS: usize = 64;
 
 /// A channel's registers and counts.
 #[repr(C)]
@@ -154,13 +151,6 @@ pub extern "C" fn dma330_channel_load_program(kept: &mut KeptChannel, program: &
         .channel
         .load_bytes(program, Registers::start(Bus::Ideal));
     OK
-}
-
-/// Returns whether channels can be stepped over these regions.
-pub fn are_usable(regions: &[Region<'_>]) -> bool
-    ensures { result ≡ are_usable regions.now }
-{
-    regions.len() <= MAX_REGIONS && are_in_order(regions)
 }
 
 /// Loads the program that begins at address `addr` of the regions, in place of the former program. It may cross from

@@ -3,8 +3,7 @@
 ghost use Rattle.std.specs.Prelude.{◌≡◌, Some};
 ghost use Rattle.dma_ffi.specs.Channels.{ReportsSteps, did, channel_report};
 
-use crate::channel_calls::are_usable;
-use crate::codes::{BAD_REGIONS, NO_PROGRAM, NOT_OPEN, OK, number_of_kind};
+use crate::codes::{BAD_REGIONS, NO_PROGRAM, NOT_OPEN, OK, are_usable, number_of_kind};
 use crate::kept_channel::KeptChannel;
 use dma_chan::lent::{Taken, step_regions};
 use dma_chan::turn::ChanTurn;

@@ -1,6 +1,7 @@
-//! The numbers that calls from C return and write.
+//! The numbers that calls from C return and write, and the arguments that they accept.
 
 ghost use Rattle.std.specs.Prelude.{◌≡◌, unwrap_or};
+ghost use Rattle.dma_ffi.specs.Channels.{are_usable};
 ghost use Rattle.dma_ffi.specs.Codes.{answer_code, cause_code, decode_code, device_code, event_of, fault_code, found_code, kind_number, mark_kind, new_code, program_code, result_number, status_code, transfer_code, value_or};
 
 use dma_chan::program::ProgramFault;
@@ -9,7 +10,11 @@ use dma_device::config;
 use dma_engine::{EngineFault, MarkKind, NewFault, Status, TransResult};
 use dma_insn::assembler::AsmCause;
 use dma_insn::codec::DecodeFault;
+use dma_mem::regions::{Region, are_in_order};
 use dma_mem::transfer::TransferFault;
+
+/// The maximum number of regions.
+const MAX_REGIONS: usize = 64;
 
 /// The call succeeded.
 pub const OK: i32 = 0;
@@ -237,6 +242,13 @@ pub fn event_of(event: i32) -> Option<u8>
     } else {
         Some(event.min(255) as u8)
     }
+}
+
+/// Returns whether channels can be stepped over these regions.
+pub fn are_usable(regions: &[Region<'_>]) -> bool
+    ensures { result ≡ are_usable regions.now }
+{
+    regions.len() <= MAX_REGIONS && are_in_order(regions)
 }
 
 /// Returns the code of an answer, and writes its value.

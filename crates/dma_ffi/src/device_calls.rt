@@ -9,10 +9,10 @@ ghost use Rattle.dma_ffi.specs.Calls.{ReadsOpen, WritesSave, WritesValue};
 ghost use Rattle.dma_ffi.specs.DeviceSessions.{Called, ask_look, ask_read, ask_reset, ask_restore, ask_turn, ask_write};
 ghost use Rattle.dma_ffi.specs.Devices.{FitsSave, Opens, WritesRegisters, abort_line, any_can_step, device_report, restore_code};
 
-use crate::channel_calls::{ChannelRegisters, are_usable, registers_of};
+use crate::channel_calls::{ChannelRegisters, registers_of};
 use crate::codes::{
     ALREADY_OPEN, BAD_CONFIG, BAD_REGIONS, BAD_SAVE, BUFFER_TOO_SMALL, NO_CHANNEL, NO_MEMORY,
-    NOT_OPEN, OK, OTHER_DEVICE, code_of_device, found,
+    NOT_OPEN, OK, OTHER_DEVICE, are_usable, code_of_device, found,
 };
 use crate::device_config::{DeviceConfig, config_of};
 use crate::kept_device::KeptDevice;

@@ -4,8 +4,7 @@ ghost use Rattle.std.specs.Prelude.{◌≡◌};
 ghost use Rattle.dma_ffi.specs.DeviceSessions.{Called, ask_rows};
 ghost use Rattle.dma_ffi.specs.Devices.{rows_report_of};
 
-use crate::channel_calls::are_usable;
-use crate::codes::{BAD_REGIONS, NOT_OPEN, OK};
+use crate::codes::{BAD_REGIONS, NOT_OPEN, OK, are_usable};
 use crate::kept_device::KeptDevice;
 use dma_device::device::Device;
 use dma_device::device::rows::RowTurns;

@@ -26,9 +26,7 @@ rises_before at s ps low high rest = rw (le-leb at s.addr low, piece_end s, le-l
 -- one more range behind the last one
 pub rises_more : (at : ℕ) (ss : List Segment) (s t : Segment) → rises_from at (map zero_piece (ss ++ s ∷ [])) ≡ true → end s ≤ t.addr → end t ≤ largest_end
     → rises_from at (map zero_piece ((ss ++ s ∷ []) ++ t ∷ [])) ≡ true
-rises_more at [] s t h below high =
-    let f = first at (zero_piece s) [] h in
-    rises_before at s (zero_piece t ∷ []) f.after (subst (λ (e : ℕ). e ≤ largest_end) (piece_end s) f.most) (rises_one (end s) t below high)
+rises_more at [] s t h below high = grind (arith, rises_before, subst, piece_end, rises_one)
 rises_more at (r ∷ ss) s t h below high =
     let f = first at (zero_piece r) (map zero_piece (ss ++ s ∷ [])) h in
     let rest = subst (λ (e : ℕ). rises_from e (map zero_piece (ss ++ s ∷ [])) ≡ true) (piece_end r) f.rest in
@@ -38,9 +36,7 @@ rises_more at (r ∷ ss) s t h below high =
 -- another range in place of the last one
 pub rises_other : (at : ℕ) (ss : List Segment) (s t : Segment) → rises_from at (map zero_piece (ss ++ s ∷ [])) ≡ true → s.addr ≡ t.addr → end t ≤ largest_end
     → rises_from at (map zero_piece (ss ++ t ∷ [])) ≡ true
-rises_other at [] s t h same high =
-    let f = first at (zero_piece s) [] h in
-    rises_one at t (subst (λ (n : ℕ). at ≤ n) same f.after) high
+rises_other at [] s t h same high = grind (arith, rises_one, subst)
 rises_other at (r ∷ ss) s t h same high =
     let f = first at (zero_piece r) (map zero_piece (ss ++ s ∷ [])) h in
     let rest = subst (λ (e : ℕ). rises_from e (map zero_piece (ss ++ s ∷ [])) ≡ true) (piece_end r) f.rest in

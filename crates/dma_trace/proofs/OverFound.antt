@@ -22,11 +22,12 @@ found_ends start program most x f =
     All-append Ends _ _ (All-append Ends _ _ src dst) zeros
 
 -- a trace over these ranges
-module _ (o : TraceOptions) (program : List ℕ) (x : Explained) (ranges shown : List Segment) where
-  pub shown_alone : (good : Bool) (out err old wave new_out new_err new_wave : List ℕ) → Finds (start_on o.bus) program (most_explained o) x
-      → shown ≡ ranges → IsTrue (in_order (map zero_piece ranges)) → ((a : ℕ) → lies_in_any ranges a ≡ lies_in_any (ranges_of x) a) → err ≡ old
+module _ (o : TraceOptions) (program : List ℕ) (x : Explained) (ranges shown : List Segment)
+    (finds : Finds (start_on o.bus) program (most_explained o) x) where
+  pub shown_alone : (good : Bool) (out err old wave new_out new_err new_wave : List ℕ) → shown ≡ ranges
+      → IsTrue (in_order (map zero_piece ranges)) → ((a : ℕ) → lies_in_any ranges a ≡ lies_in_any (ranges_of x) a) → err ≡ old
       → ShowsOver o program shown good out err wave new_out new_err new_wave → ShowsAlone o program good out old wave new_out new_err new_wave
-  shown_alone good out err old wave new_out new_err new_wave finds same order places kept h =
+  shown_alone good out err old wave new_out new_err new_wave same order places kept h =
       let over : ShowsOver o program ranges good out old wave new_out new_err new_wave =
       subst (λ (e : List ℕ). ShowsOver o program ranges good out e wave new_out new_err new_wave) kept
       (subst (λ (s : List Segment). ShowsOver o program s good out err wave new_out new_err new_wave) same h) in

@@ -1,10 +1,10 @@
 -- A run without memory as far as an instruction that is refused.
-use Rattle.std.proofs.Common.{◌≡◌, ℕ, suc, ◌+◌, ◌≤◌, false, List, ◌++◌, Option, Some, None, Result, Ok, Err, refl, sym, ap, subst, ◌∙◌, arith}
-use Rattle.std.specs.Prelude.{IfOk, is_err, slice_get}
+use Rattle.std.proofs.Common.{◌≡◌, ◌≢◌, ℕ, suc, ◌+◌, ◌≤◌, List, ◌++◌, Option, Result, Ok, Err, refl, sym, ap, subst, ◌∙◌, arith}
+use Rattle.std.specs.Prelude.{IfOk, slice_get}
 use Rattle.dma_insn.specs.declared.chip.ChipInsn.{ChipInsn}
 use Rattle.dma_chan.specs.{declared.bus.Bus.Bus, declared.exec.Registers.Registers, declared.turn.FaultKind.FaultKind, Exec.start_on, Next.next_on}
-use Rattle.dma_explain.specs.Explains.{GoesOn, Trace, next_in, stop_of, traced}
-use Rattle.dma_explain.specs.{declared.explain.Cause.Cause, declared.explain.Cause.TheVariants.Fails, declared.explain.Unexplained.Unexplained}
+use Rattle.dma_explain.specs.Explains.{GoesOn, Trace, next_in, traced}
+use Rattle.dma_explain.specs.{declared.explain.Cause.Cause, declared.explain.Unexplained.Unexplained}
 use Rattle.dma_explain.specs.declared.explain.tracer.Tracer.{Tracer}
 use Rattle.dma_explain.specs.inner.Tracing.{Follows, Leads}
 use Rattle.dma_explain.proofs.Explaining.{next_here}
@@ -13,16 +13,12 @@ use Rattle.dma_trace.specs.{Touches.touches_in, Words.cause_text, Words.refusal_
 
 -- an instruction that goes on was fetched
 pub never : (program : List ℕ) (z : Trace) (kind : FaultKind) → next_in program z ≡ Err kind → GoesOn (next_in program z) z → ⊥
-never program z kind next goes =
-    let stop : Some (Fails kind) ≡ None = sym (ap (λ r. stop_of r z) next) ∙ goes.1 in
-    cc
+never program z kind next goes = grind (arith, sym, ap)
 
 -- one instruction was executed
-pub one_more : (start : Registers) (program : List ℕ) (n : ℕ) (x y : Tracer) (r : Result ℕ Cause) → false ≡ is_err r → IfOk r (λ m. (1 ≤ m) × (m ≤ 1))
-    → IfOk r (λ m. Leads program m x y) → Follows start program n x → Follows start program (n + 1) y
-one_more start program n x y (Ok m) e some leads w =
-    subst (λ (k : ℕ). Follows start program (n + k) y) (let one : m ≡ 1 = omega (arith, some) in one) (leads start n w)
-one_more start program n x y (Err cause) e some leads w = absurd (cc)
+pub one_more : (start : Registers) (program : List ℕ) (n : ℕ) (x y : Tracer) (r : Result ℕ Cause) → ((cause : Cause) → r ≢ Err cause)
+    → IfOk r (λ m. (1 ≤ m) × (m ≤ 1)) → IfOk r (λ m. Leads program m x y) → Follows start program n x → Follows start program (n + 1) y
+one_more x0 x1 x2 x3 x4 x5 x6 x7 x8 x9 = grind (arith, subst, arith, refl)
 
 -- after this number of instructions of a program on a bus
 module _ (bus : Bus) (program : List ℕ) where
@@ -46,10 +42,10 @@ module _ (bus : Bus) (program : List ℕ) where
   front_here n x w = ap (front_of x.registers) w.tracer.held ∙ ap front_at w.reaches.trace
 
   -- what is printed of a program that is refused
+  abbrev refusal : Unexplained → Front → Option ℕ → Result ChipInsn FaultKind → Touches → List ℕ
+  refusal u f first next t = refusal_text (cause_text u.cause first next u.steps f ++ conflict_text u.cause u.addr t) first next u.steps f u.stored
+
   pub cause_printed : (u : Unexplained) (f : Front) (first : Option ℕ) (next : Result ChipInsn FaultKind) (t : Touches) → f ≡ front_at (there u.steps)
       → first ≡ slice_get program f.registers.pc → next ≡ next_on f.registers.bus program f.registers.pc → t ≡ touches_in bus program u.addr u.steps
-      → refusal_text (cause_text u.cause first next u.steps f ++ conflict_text u.cause u.addr t) first next u.steps f u.stored ≡ unexplained_text bus program u
-  cause_printed u f first next t at byte is touches =
-      let next_is : next_in program (there u.steps) ≡ next =
-      ap (λ (g : Front). next_on g.registers.bus program g.registers.pc) (sym at) ∙ sym is in
-      rw (touches, byte, ← next_is, at) refl
+      → refusal u f first next t ≡ unexplained_text bus program u
+  cause_printed u f first next t at byte is touches = grind (arith, ap, sym, refl)

@@ -1,5 +1,5 @@
 -- RAM that is made at ranges.
-use Rattle.std.proofs.Common.{◌≡◌, ℕ, ◌+◌, ◌-◌, ◌<◌, List, [], ◌∷◌, ◌++◌, length, drop, take, map, replicate, get_or, ap, sym, ◌∙◌, arith, add-one}
+use Rattle.std.proofs.Common.{◌≡◌, ℕ, ◌+◌, ◌<◌, List, [], ◌∷◌, ◌++◌, length, drop, take, map, replicate, get_or, ap, sym, ◌∙◌, arith, add-one}
 use Rattle.std.proofs.{Math.Seq.take-suc, lemmas.List.drop-replicate, lemmas.List.map-append, lemmas.List.take-replicate, lemmas.List.Sums.sum_by-drop_more}
 use Rattle.dma_mem.specs.{declared.regions.Region.Region, declared.segment.Segment.Segment, Refusals.total, Regions.Piece, Regions.piece_of, Regions.pieces_of}
 use Rattle.dma_trace.specs.Found.{zero_piece}
@@ -16,17 +16,12 @@ total_more ranges k h = sum_by-drop_more (λ (s : Segment). s.len) ranges k no_r
 -- the bytes of the next range
 pub front_zeros : (ranges : List Segment) (k : ℕ) (rest front : List ℕ) → k < length ranges → rest ≡ replicate (total (drop k ranges)) 0
     → front ≡ take (get_or ranges k no_range).len rest → front ≡ replicate (get_or ranges k no_range).len 0
-front_zeros ranges k rest front h r f =
-    let n = (get_or ranges k no_range).len in
-    f ∙ ap (λ (xs : List ℕ). take n xs) r ∙ take-replicate n (total (drop k ranges)) 0 (omega (arith, total_more ranges k h))
+front_zeros ranges k rest front h r f = grind (arith, get_or, ap, take, take-replicate, drop, arith, total_more)
 
 -- the bytes of the ranges behind it
 pub back_zeros : (ranges : List Segment) (k : ℕ) (rest back : List ℕ) → k < length ranges → rest ≡ replicate (total (drop k ranges)) 0
     → back ≡ drop (get_or ranges k no_range).len rest → back ≡ replicate (total (drop (k + 1) ranges)) 0
-back_zeros ranges k rest back h r b =
-    let n = (get_or ranges k no_range).len in
-    let left : total (drop k ranges) - n ≡ total (drop (k + 1) ranges) = omega (arith, total_more ranges k h) in
-    b ∙ ap (λ (xs : List ℕ). drop n xs) r ∙ drop-replicate n (total (drop k ranges)) 0 ∙ ap (λ (m : ℕ). replicate m 0) left
+back_zeros ranges k rest back h r b = grind (arith, get_or, drop, arith, total_more, ap, drop-replicate, replicate)
 
 -- one more region
 pub one_more : (ranges : List Segment) (k : ℕ) (regions : List Region) (r : Region) → k < length ranges → pieces_of regions ≡ map zero_piece (take k ranges)
@@ -34,8 +29,7 @@ pub one_more : (ranges : List Segment) (k : ℕ) (regions : List Region) (r : Re
     → pieces_of (regions ++ r ∷ []) ≡ map zero_piece (take (k + 1) ranges)
 one_more ranges k regions r h made at zeros =
     let s = get_or ranges k no_range in
-    let piece : piece_of r ≡ zero_piece s = ap (λ (a : ℕ). let p : Piece = record { addr = a; bytes = r.bytes.now } in p) at
-    ∙ ap (λ (bs : List ℕ). let p : Piece = record { addr = s.addr; bytes = bs } in p) zeros in
+    let piece : piece_of r ≡ zero_piece s = grind (arith, ap) in
     map-append piece_of regions (r ∷ [])
     ∙ ap (λ (ps : List Piece). ps ++ piece_of r ∷ []) made
     ∙ ap (λ (p : Piece). map zero_piece (take k ranges) ++ p ∷ []) piece

@@ -1,18 +1,16 @@
 -- A run of a trace, step after step.
-use Rattle.std.proofs.Common.{◌≡◌, ◌≢◌, ℕ, suc, ◌+◌, ◌<◌, ◌≤◌, Bool, true, false, List, ◌++◌, length, map, Option, Some, None, refl, sym, ap, subst, ◌∙◌}
+use Rattle.std.proofs.Common.{◌≡◌, ◌≢◌, ℕ, suc, ◌+◌, ◌<◌, Bool, true, List, ◌++◌, map, Option, Some, None, refl, sym, ap, subst, ◌∙◌}
 use Rattle.std.proofs.Common.{arith, inl, inr, append_assoc, append-nil}
-use Rattle.std.specs.Prelude.{flat_map, nat_lt, slice_get}
+use Rattle.std.specs.Prelude.{nat_lt, slice_get}
 use Rattle.std.proofs.lemmas.Bool.{cases_lt, le-ltb, lt-ltb}
-use Rattle.dma_insn.specs.AssemblyText.{most_program_bytes}
-use Rattle.dma_mem.specs.Regions.{Piece, image_of, in_order, pieces_of, read_only_of}
-use Rattle.dma_mem.specs.{Flags.flags_of, Marking.MarkList, declared.regions.Region.Region, declared.segment.Segment.Segment}
-use Rattle.dma_chan.specs.Channel.{ChannelValue, after_turn, ahead_of, bytes_of_program, code_of, loaded_on, step_of, stored_by}
+use Rattle.dma_mem.specs.Regions.{image_of, in_order, pieces_of, read_only_of}
+use Rattle.dma_mem.specs.{Flags.flags_of, Marking.MarkList, declared.regions.Region.Region}
+use Rattle.dma_chan.specs.Channel.{ChannelValue, ahead_of, code_of, loaded_on}
 use Rattle.dma_chan.specs.{declared.turn.ChanTurn.ChanTurn, declared.turn.ChanTurn.TheVariants.Moved, LentRegions.segment_of, LentRegions.with_gaps_of}
 use Rattle.dma_chan.specs.Stepping.{Machine, after_step, after_steps, answer_at}
 use Rattle.dma_explain.proofs.InOrder.{marks_kept}
-use Rattle.dma_trace.specs.Traced.{End, Shows, StopsAfter, dump_text, end_after, end_of, front_in, if_wave, last_answer, lines, marks_over, opening, pieces_in}
-use Rattle.dma_trace.specs.Traced.{shown_line, tried, waveform}
-use Rattle.dma_trace.specs.inner.Running.{Ends, Goes, Runs, RunsOver, Waves, machine_over}
+use Rattle.dma_trace.specs.Traced.{End, StopsAfter, end_after, end_of, front_in, if_wave, last_answer, lines, opening, pieces_in, shown_line, tried}
+use Rattle.dma_trace.specs.inner.Running.{Ends, Goes, Runs, Waves, machine_over}
 use Rattle.dma_trace.specs.{declared.words.Point.Point, declared.options.TraceOptions.TraceOptions, Front.point_of, Wave.executing, Wave.last_text}
 use Rattle.dma_trace.proofs.{Steps.pieces_are, Waves.wave_ends}
 
@@ -52,53 +50,41 @@ module _ {o : TraceOptions} {marks : MarkList} {first : List Region} {s : Machin
   pub took : (given : MarkList) (left : List Region) {d : ChannelValue} {after : List Bool} {turn : ChanTurn} → marks ≡ with_gaps_of first given
       → turn ≡ answer_at (with_gaps_of rs given) (machine_over c rs flags)
       → machine_over d left after ≡ after_step (with_gaps_of rs given) (machine_over c rs flags) → Took marks c d rs left flags after turn
-  took given left same answer to =
-      let kept = marks_kept first rs given w.places w.read_only ∙ sym same in
-      record {
-        answer = answer ∙ ap (λ (m : MarkList). answer_at m (machine_over c rs flags)) kept;
-        to = to ∙ ap (λ (m : MarkList). after_step m (machine_over c rs flags)) kept;
-      }
+  took given left same answer to = grind (arith, marks_kept, sym, ap)
 
   -- the next instruction of the run
   pub point_there : point ≡ point_of n u.channel
   point_there = w.point_is ∙ ap (λ (m : Machine). point_of n m.channel) w.at
 
-  -- the end that is printed is that of the run
-  end_same : {turn : Option ChanTurn} {stored : ℕ} → turn ≡ last_answer marks s o.limit n → stored ≡ c.stored
-      → end_of turn (slice_get (code_of s.channel) point.front.registers.pc) point.ahead point.steps point.front stored ≡ end_after o marks s n
-  end_same is bytes =
-      let code : code_of s.channel ≡ code_of u.channel = sym (ap bytes_of_program w.program) ∙ ap (λ (m : Machine). code_of m.channel) w.at in
-      rw (is, bytes ∙ ap (λ (m : Machine). m.channel.stored) w.at, code, point_there) refl
+  -- the last answer and the number of stored bytes
+  module _ {turn : Option ChanTurn} {stored : ℕ} (is : turn ≡ last_answer marks s o.limit n) (bytes : stored ≡ c.stored) where
+    -- the end that is printed is that of the run
+    end_same : end_of turn (slice_get (code_of s.channel) point.front.registers.pc) point.ahead point.steps point.front stored ≡ end_after o marks s n
+    end_same = grind (arith, sym, ap, point_there, refl)
 
-  -- the run ends with this answer
-  finish : {turn : Option ChanTurn} {stored : ℕ} {good : Bool} (after : List ℕ) {err wave new_out new_err new_wave : List ℕ}
-      → turn ≡ last_answer marks s o.limit n → stored ≡ c.stored → StopsAfter marks s o.limit n → after ≡ (after_steps marks s (tried o.limit n)).image
-      → Closes o marks s n point turn stored good mid err wave new_out new_err new_wave
-      → Runs o marks (map segment_of first) s good after old err wave new_out new_err new_wave
-  finish {turn} {stored} after {err} is bytes run memory e =
-      let end = end_of turn (slice_get (code_of s.channel) point.front.registers.pc) point.ahead point.steps point.front stored in
-      let same : end ≡ end_after o marks s n = end_same is bytes in
-      record {
-        count = n;
-        run = run;
-        succeeds = e.ends.succeeds ∙ ap (λ (x : End). x.succeeds) same;
-        memory = memory;
-        to_out = e.ends.to_out ∙ ap (λ (xs : List ℕ). xs ++ end.says) w.text
-            ∙ ap (λ (x : End). (old ++ lines o marks (map segment_of first) s n) ++ x.says) same;
-        to_err = e.ends.to_err ∙ ap (λ (xs : List ℕ). xs ++ end.wrong) e.clean ∙ ap (λ (x : End). err ++ x.wrong) same;
-        to_wave = wave_ends o marks s n _ _ _ _ _ e.waves (ap executing point_there) is e.waved;
-      }
+    -- the run ends with this answer
+    finish : {good : Bool} (after : List ℕ) {err wave new_out new_err new_wave : List ℕ} → StopsAfter marks s o.limit n
+        → after ≡ (after_steps marks s (tried o.limit n)).image → Closes o marks s n point turn stored good mid err wave new_out new_err new_wave
+        → Runs o marks (map segment_of first) s good after old err wave new_out new_err new_wave
+    finish after {err} run memory e =
+        let end = end_of turn (slice_get (code_of s.channel) point.front.registers.pc) point.ahead point.steps point.front stored in
+        let same : end ≡ end_after o marks s n = end_same in
+        record {
+          count = n;
+          run = run;
+          succeeds = e.ends.succeeds ∙ ap (λ (x : End). x.succeeds) same;
+          memory = memory;
+          to_out = e.ends.to_out ∙ ap (λ (xs : List ℕ). xs ++ end.says) w.text
+              ∙ ap (λ (x : End). (old ++ lines o marks (map segment_of first) s n) ++ x.says) same;
+          to_err = e.ends.to_err ∙ ap (λ (xs : List ℕ). xs ++ end.wrong) e.clean ∙ ap (λ (x : End). err ++ x.wrong) same;
+          to_wave = wave_ends o marks s n _ _ _ _ _ e.waves (ap executing point_there) is e.waved;
+        }
 
   -- the limit is reached
   pub ends : {stored : ℕ} {good : Bool} {err wave new_out new_err new_wave : List ℕ} → n ≡ o.limit → stored ≡ c.stored
       → Closes o marks s n point None stored good mid err wave new_out new_err new_wave
       → Runs o marks (map segment_of first) s good (image_of (pieces_of rs)) old err wave new_out new_err new_wave
-  ends limit bytes e =
-      let test : nat_lt n o.limit ≡ false = le-ltb n o.limit (omega (arith, limit)) in
-      finish (image_of (pieces_of rs)) (rw test refl) bytes
-      (record { moved = w.moved; few = omega (arith, limit); stops = λ more e. omega (arith, more, limit) })
-      (ap (λ (v : Machine). v.image) w.at ∙ rw test refl)
-      e
+  ends limit bytes e = grind (arith, le-ltb, arith, finish, refl, ap)
 
 -- one more step
 module _ {o : TraceOptions} {marks : MarkList} {first : List Region} {s : Machine} {n : ℕ} {c : ChannelValue} {rs : List Region} {flags : List Bool}
@@ -115,11 +101,7 @@ module _ {o : TraceOptions} {marks : MarkList} {first : List Region} {s : Machin
 
   -- a step that moves keeps the program, and is counted
   kept : turn ≡ Moved → (d.program ≡ c.program) × (d.taken ≡ c.taken + 1)
-  kept moves =
-      let x = step_of marks c (machine_over c rs flags).image flags in
-      let turned : ChanTurn → ChannelValue = λ a. after_turn a x.1 (stored_by (ahead_of c) c.registers) c in
-      let is : d ≡ turned Moved = ap (λ (m : Machine). m.channel) t.to ∙ ap turned (sym t.answer ∙ moves) in
-      (ap (λ (e : ChannelValue). e.program) is, ap (λ (e : ChannelValue). e.taken) is)
+  kept moves = grind (arith, ap, sym)
 
   -- the program stays loaded
   pub program_there : turn ≡ Moved → d.program ≡ s.channel.program
@@ -131,12 +113,10 @@ module _ {o : TraceOptions} {marks : MarkList} {first : List Region} {s : Machin
       let number : n + 1 ≡ suc n = omega arith in
       let to : machine_over d left after ≡ after_steps marks s (suc n) = to_there in
       let places = x.places ∙ w.places in
-      let pieces : pieces_of left ≡ pieces_in (map segment_of first) (after_step marks v).image =
-      pieces_are left x.order ∙ rw (places, ap (λ (m : Machine). m.image) to_there) refl in
+      let pieces : pieces_of left ≡ pieces_in (map segment_of first) (after_step marks v).image = grind (arith, pieces_are, places, ap, to_there, refl) in
       let front : next.front ≡ front_in (after_step marks v) = ap (λ (p : Point). p.front) x.next_is ∙ ap front_in to_there in
       let line : shown_line o (point.steps + 1) point.ahead point.front next.front (pieces_of left) ≡ shown_line o (suc n) (ahead_of v.channel) (front_in v)
-      (front_in (after_step marks v)) (pieces_in (map segment_of first) (after_step marks v).image) =
-      rw (point_there w, front, pieces, number) refl in
+      (front_in (after_step marks v)) (pieces_in (map segment_of first) (after_step marks v).image) = grind (arith, point_there, refl, front, pieces, number) in
       record {
         at = to ∙ ap (after_steps marks s) (sym number);
         moved = λ k less. elim (cases_lt k n) [
@@ -163,62 +143,15 @@ module _ {o : TraceOptions} {marks : MarkList} {first : List Region} {s : Machin
       → Runs o marks (map segment_of first) s good (image_of (pieces_of left)) old err wave new_out new_err new_wave
   stops less other bytes e =
       let test : nat_lt n o.limit ≡ true = lt-ltb n o.limit less in
-      finish w (image_of (pieces_of left)) (rw test (ap Some answer_there)) bytes
+      finish w (rw test (ap Some answer_there)) bytes (image_of (pieces_of left))
       (record { moved = w.moved; few = omega (arith, less); stops = λ more e. other (answer_there ∙ e) })
       (rw test (ap (λ (m : Machine). m.image) to_there))
       e
 
--- ---- the whole
-
-joined : (a b c d x z : List ℕ) → x ≡ (a ++ b) ++ c → z ≡ x ++ d → z ≡ a ++ ((b ++ c) ++ d)
-joined a b c d x z e f = f ∙ ap (λ (l : List ℕ). l ++ d) e ∙ simp append_assoc
-
-pub shows : (o : TraceOptions) (program : List ℕ) (first left : List Region) (good : Bool) (out err wave mid new_out new_err new_wave : List ℕ)
-    → length program ≤ most_program_bytes → map segment_of left ≡ map segment_of first → in_order (pieces_of left) ≡ true
-    → RunsOver o (marks_over o first) program first left good out err wave mid new_err new_wave
-    → new_out ≡ mid ++ flat_map (dump_text (pieces_of left)) o.dumps.items
-    → Shows o program first left good out err wave new_out new_err new_wave
-shows o program first left good out err wave mid new_out new_err new_wave long places order w dumped =
-    let marks = marks_over o first in
-    let s = opening o program (image_of (pieces_of first)) in
-    let after = image_of (pieces_of left) in
-    let end = end_after o marks s w.count in
-    let all : List ℕ = lines o marks (map segment_of first) s w.count in
-    let pieces : pieces_of left ≡ pieces_in (map segment_of first) after = pieces_are left order ∙ ap (λ (ss : List Segment). pieces_in ss after) places in
-    let dump : List ℕ = flat_map (dump_text (pieces_of left)) o.dumps.items in
-    record {
-      printed = (all ++ end.says) ++ dump;
-      wrong = end.wrong;
-      waved = if_wave o (waveform marks s w.count (last_answer marks s o.limit w.count));
-      to_out = joined out all end.says dump mid new_out w.to_out dumped;
-      to_err = w.to_err;
-      to_wave = w.to_wave;
-      places = places;
-      traces = inr (
-        long,
-        record {
-          steps = w.count;
-          run = w.run;
-          succeeds = w.succeeds;
-          memory = w.memory;
-          to_out = ap (λ (ps : List Piece). (all ++ end.says) ++ flat_map (dump_text ps) o.dumps.items) pieces;
-          to_err = refl;
-          to_wave = refl;
-        },
-      );
-    }
+-- ---- the first step
 
 -- nothing has happened before the first step
 pub begins : (o : TraceOptions) (marks : MarkList) (program : List ℕ) (first : List Region) (c : ChannelValue) (flags : List Bool) (point : Point)
     (out : List ℕ) → c ≡ loaded_on o.bus (record { bytes = program; cost = None }) → flags ≡ flags_of o.events → point ≡ point_of 0 c
     → Goes o marks first (opening o program (image_of (pieces_of first))) 0 c first flags point out out
-begins o marks program first c flags point out channel events is = record {
-  at = rw (channel, events) refl;
-  moved = λ k less. absurd (omega (arith, less));
-  point_is = is;
-  program = ap (λ (d : ChannelValue). d.program) channel;
-  taken = ap (λ (d : ChannelValue). d.taken) channel;
-  places = refl;
-  read_only = refl;
-  text = sym (append-nil out);
-}
+begins o marks program first c flags point out channel events is = grind (arith, refl, arith, ap, sym, append-nil)

@@ -1,13 +1,13 @@
 -- The steps of a trace.
-use Rattle.std.proofs.Common.{◌≡◌, ℕ, zero, suc, ◌+◌, ◌-◌, ◌<◌, Bool, true, false, List, [], ◌∷◌, ◌++◌, length, take, drop, map, replicate}
-use Rattle.std.proofs.Common.{Option, Some, None, Result, Ok, Err, refl, sym, ap, ◌∙◌, arith, inl, inr}
+use Rattle.std.proofs.Common.{◌≡◌, ℕ, ◌+◌, ◌-◌, ◌<◌, Bool, true, List, [], ◌∷◌, ◌++◌, length, take, drop, map, replicate}
+use Rattle.std.proofs.Common.{Option, Some, None, Result, refl, sym, ap, ◌∙◌, arith, inl, inr}
 use Rattle.std.specs.Prelude.{IfOk, IsSome, OnOk}
 use Rattle.std.proofs.{Math.Seq.take-append_seam, Math.Seq.drop-append_seam, Math.Seq.drop-drop, lemmas.List.length-replicate}
 use Rattle.dma_mem.specs.Regions.{Piece, bytes_above, end_of, image_of, in_order, piece_of, pieces_of, rises_from}
 use Rattle.dma_mem.specs.{Marking.MarkList, declared.regions.Region.Region}
 use Rattle.dma_mem.proofs.Pieces.{first}
 use Rattle.dma_chan.specs.Channel.{last_count}
-use Rattle.dma_chan.specs.Stepping.{Machine, TakesSteps, after_step, after_steps, answer_at, goes_on_after}
+use Rattle.dma_chan.specs.Stepping.{Machine, TakesSteps, after_step, answer_at}
 use Rattle.dma_chan.specs.{declared.turn.ChanTurn.ChanTurn, LentRegions.segment_of}
 use Rattle.dma_chan.proofs.{StepsTaken.steps_few, StepsTaken.steps_stop}
 use Rattle.dma_trace.specs.Traced.{pieces_in}
@@ -16,25 +16,14 @@ use Rattle.dma_trace.specs.Traced.{pieces_in}
 
 pub one_step : (marks : MarkList) (s : Machine) (taken : ℕ) (last : Option ChanTurn) (turn : ChanTurn) (after : Machine) → TakesSteps marks s 1 taken last after
     → last ≡ Some turn → (turn ≡ answer_at marks s) × (after ≡ after_step marks s)
-one_step marks s zero last turn after t is = absurd (let e : Some turn ≡ None = sym is ∙ t.answer in cc)
-one_step marks s (suc zero) last turn after t is = (let e : Some turn ≡ Some (answer_at marks s) = sym is ∙ t.answer in cc, t.ends_at)
-one_step marks s (suc (suc k)) last turn after t is = absurd (omega (arith, steps_few t))
+one_step x0 x1 x2 x3 x4 x5 x6 x7 = grind (arith, sym, arith, steps_few)
 
 never_none : (marks : MarkList) (s : Machine) (taken : ℕ) (last : Option ChanTurn) (after : Machine) → TakesSteps marks s 1 taken last after → last ≡ None
     → s.channel.taken < last_count → ⊥
-never_none marks s zero last after t is less =
-    elim (steps_stop t) [
-      | inl e ↦ omega (arith, e)
-      | inr either ↦ elim either [
-        | inl e ↦ let on : goes_on_after marks s 0 ≡ true = refl in let no : true ≡ false = sym on ∙ e in cc
-        | inr e ↦ omega (arith, less, e, ap (λ (u : Machine). u.channel.taken) t.ends_at)
-      ]
-    ]
-never_none marks s (suc k) last after t is less = let e : None ≡ Some (answer_at marks (after_steps marks s k)) = sym is ∙ t.answer in cc
+never_none x0 x1 x2 x3 x4 x5 x6 x7 = grind (arith, arith, steps_stop, inl, inr, refl, true, sym, ap)
 
 some_if : {X : Type 0} (o : Option X) → (o ≡ None → ⊥) → IsSome o
-some_if (Some x) f = refl
-some_if None f = absurd (f refl)
+some_if x0 x1 = grind (arith, refl)
 
 pub some_last : (marks : MarkList) (s : Machine) (taken : ℕ) (last : Option ChanTurn) (after : Machine) → TakesSteps marks s 1 taken last after
     → s.channel.taken < last_count → IsSome last
@@ -42,8 +31,7 @@ some_last marks s taken last after t less = some_if last (λ e. never_none marks
 
 -- what holds of each result that isn't an error
 pub on_ok : {E : Type 0} (r : Result Bool E) (P Q : Bool → Type 0) (R : Type 0) → ((b : Bool) → P b → R → Q b) → IfOk r P → OnOk r R → IfOk r Q
-on_ok (Ok b) P Q R f h also = f b h also
-on_ok (Err e) P Q R f h also = tt
+on_ok x0 x1 x2 x3 x4 x5 x6 = grind (arith)
 
 -- ---- memory
 

@@ -69,8 +69,10 @@ store_bytes f = burst_len (destination_of f.registers)
 unfoldable pub header_text : List ℕ
 header_text =
     codes "$comment a time unit is an instruction $end\n$timescale 1 ns $end\n$scope module dma330 $end\n"
-    ++ codes "$var wire 16 a pc $end\n$var wire 4 b state $end\n$var wire 32 c ftr $end\n$var wire 32 d sar $end\n$var wire 32 e dar $end\n$var wire 32 f ccr $end\n$var wire 8 g lc0 $end\n$var wire 8 h lc1 $end\n$var wire 9 i buffer $end\n"
-    ++ codes "$var wire 1 j ld $end\n$var wire 12 k ld_bytes $end\n$var wire 1 l st $end\n$var wire 12 m st_bytes $end\n$var wire 1 n sev $end\n$var wire 1 o wfe $end\n$var wire 5 p event $end\n"
+    ++ (codes "$var wire 16 a pc $end\n$var wire 4 b state $end\n$var wire 32 c ftr $end\n$var wire 32 d sar $end\n$var wire 32 e dar $end\n"
+    ++ codes "$var wire 32 f ccr $end\n$var wire 8 g lc0 $end\n$var wire 8 h lc1 $end\n$var wire 9 i buffer $end\n")
+    ++ (codes "$var wire 1 j ld $end\n$var wire 12 k ld_bytes $end\n$var wire 1 l st $end\n$var wire 12 m st_bytes $end\n"
+    ++ codes "$var wire 1 n sev $end\n$var wire 1 o wfe $end\n$var wire 5 p event $end\n")
     ++ codes "$upscope $end\n$enddefinitions $end\n"
 
 -- the status, the registers and the buffer

@@ -1,5 +1,4 @@
 //! Offsets, numbers of bytes and instructions, and ranges of addresses, as text.
-#![tactic(auto, using(dma_text::proofs::Begun::begins_same, dma_text::proofs::Begun::begins_appended, dma_text::proofs::Begun::begins_more))]
 
 ghost use Rattle.std.specs.Prelude.{◌≡◌};
 ghost use Rattle.dma_trace.specs.Words.{bytes_text, count_text, offset_text, range_text, times_text};

@@ -1,5 +1,4 @@
 //! Numbers, instructions and registers in columns.
-#![tactic(auto, using(dma_text::proofs::Begun::begins_same, dma_text::proofs::Begun::begins_appended, dma_text::proofs::Begun::begins_more))]
 
 ghost use Rattle.std.specs.Prelude.{◌≡◌, ◌++◌, OnOk};
 ghost use Rattle.dma_text.specs.Text.{Begins};
@@ -70,7 +69,7 @@ pub struct FrontColumns<'a> {
 impl Text for FrontColumns<'_> {
     ghost text = { λ r. front_text r.width r.front.now };
 
-    #[tactic(auto, using(dma_text::proofs::Begun::begins_same, dma_text::proofs::Begun::begins_appended, dma_text::proofs::Begun::begins_more), unfolding(crate::specs::Words::front_text))]
+    #[tactic(auto, using(dma_text::proofs::Begun::begun), unfolding(crate::specs::Words::front_text))]
     fn push(&self, out: &mut Vec<u8>) -> Result<(), AllocError> {
         let FrontColumns { front, width } = *self;
         let registers = &front.registers;

@@ -1,5 +1,4 @@
 //! What a program copies and sets to 0, as text.
-#![tactic(auto, using(dma_text::proofs::Begun::begins_same, dma_text::proofs::Begun::begins_appended, dma_text::proofs::Begun::begins_more))]
 
 ghost use Rattle.std.specs.Prelude.{◌≡◌, ◌<◌, ◌≤◌, ◌++◌, ℕ, OnOk, OnErr, IfOk, flat_map, length};
 ghost use Rattle.dma_insn.specs.AssemblyText.{most_program_bytes};
@@ -202,7 +201,10 @@ fn reached<P: Progress>(
         };
         let insn = next.insn();
         touches.add(&insn, addr, done + 1, &registers);
-        if tracer.run(program, next, 1).is_err() {
+        if let Err(cause) = tracer.run(program, next, 1) {
+            let Cause::NoMemory = cause else {
+                unreachable!()
+            };
             return Err(AllocError);
         }
     }

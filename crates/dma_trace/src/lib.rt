@@ -10,7 +10,7 @@
 //! (`IsRam`).
 //!
 //! Not proved: that memory is available.
-#![tactic(auto)]
+#![tactic(auto, using(dma_text::proofs::Begun::begun))]
 
 mod alone;
 mod amounts;

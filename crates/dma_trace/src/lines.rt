@@ -1,5 +1,4 @@
 //! The lines of a trace.
-#![tactic(auto, using(dma_text::proofs::Begun::begins_same, dma_text::proofs::Begun::begins_appended, dma_text::proofs::Begun::begins_more))]
 
 ghost use Rattle.std.specs.Prelude.{◌≡◌, ◌+◌, ◌++◌, ◌<◌, ◌^◌, OnOk, IfOk, take, flat_map};
 ghost use Rattle.dma_text.specs.Text.{Begins};
@@ -44,7 +43,7 @@ fn bytes_from(
 }
 
 // Appends what a burst moved, with its first bytes.
-#[tactic(auto, using(dma_text::proofs::Begun::begins_same, dma_text::proofs::Begun::begins_appended, dma_text::proofs::Begun::begins_more), unfolding(crate::specs::Traced::burst_text))]
+#[tactic(auto, using(dma_text::proofs::Begun::begun), unfolding(crate::specs::Traced::burst_text))]
 fn push_burst(
     alloc: Global,
     verb: &str,
@@ -69,7 +68,7 @@ fn push_burst(
 }
 
 // Appends what an instruction loaded or stored.
-#[tactic(auto, using(dma_text::proofs::Begun::begins_same, dma_text::proofs::Begun::begins_appended, dma_text::proofs::Begun::begins_more), unfolding(crate::specs::Traced::moves_text))]
+#[tactic(auto, using(dma_text::proofs::Begun::begun), unfolding(crate::specs::Traced::moves_text))]
 fn push_moves(
     alloc: Global,
     insn: &ChipInsn,
@@ -147,7 +146,7 @@ fn push_line<'a>(
 }
 
 /// Appends the line of an instruction that was executed, if it is printed.
-#[tactic(auto, using(dma_text::proofs::Begun::begins_same, dma_text::proofs::Begun::begins_appended, dma_text::proofs::Begun::begins_more), unfolding(crate::specs::Traced::shown_line))]
+#[tactic(auto, using(dma_text::proofs::Begun::begun), unfolding(crate::specs::Traced::shown_line))]
 pub fn push_step(
     alloc: Global,
     options: &TraceOptions,
@@ -190,7 +189,7 @@ impl Text for RowBytes<'_> {
 }
 
 // Appends a row of a range.
-#[tactic(auto, using(dma_text::proofs::Begun::begins_same, dma_text::proofs::Begun::begins_appended, dma_text::proofs::Begun::begins_more), unfolding(crate::specs::Traced::row_text))]
+#[tactic(auto, using(dma_text::proofs::Begun::begun), unfolding(crate::specs::Traced::row_text))]
 fn push_row(
     alloc: Global,
     regions: &[Region<'_>],

@@ -1,5 +1,4 @@
 //! RAM at the ranges that a program reads, writes and sets to 0.
-#![tactic(auto)]
 
 ghost use Rattle.std.specs.Prelude.{◌≡◌, ◌+◌, ◌≤◌, ◌++◌, ◌∷◌, [], ◌||◌, ℕ, All, IfOk, IfSome, None, IsTrue, map, max, replicate};
 ghost use Rattle.std.specs.List.Sorted.{IsNonDecreasingBy, IsPermutation};

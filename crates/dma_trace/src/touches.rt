@@ -1,5 +1,4 @@
 //! Which instructions of a program load and store an address. DMASTZ stores too.
-#![tactic(auto, using(dma_text::proofs::Begun::begins_same, dma_text::proofs::Begun::begins_appended, dma_text::proofs::Begun::begins_more))]
 
 ghost use Rattle.std.specs.Prelude.{◌≡◌};
 ghost use Rattle.dma_chan.specs.inner.Spans.{IsBurst};

@@ -1,5 +1,4 @@
 //! A program, executed over memory with a line for each instruction.
-#![tactic(auto, using(dma_text::proofs::Begun::begins_same, dma_text::proofs::Begun::begins_appended, dma_text::proofs::Begun::begins_more))]
 
 ghost use Rattle.std.specs.Prelude.{◌≡◌, ◌≤◌, ◌<◌, ◌++◌, IsTrue, IsSome, IfOk, None, OnOk, OnErr, length, map, slice_get};
 ghost use Rattle.dma_insn.specs.AssemblyText.{most_program_bytes};

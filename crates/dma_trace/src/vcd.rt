@@ -1,5 +1,4 @@
 //! Values of signals in a Value Change Dump.
-#![tactic(auto, using(dma_text::proofs::Begun::begins_same, dma_text::proofs::Begun::begins_appended, dma_text::proofs::Begun::begins_more))]
 
 ghost use Rattle.std.specs.Prelude.{◌≡◌, ◌+◌, ◌/◌, ◌%◌, ◌^◌};
 ghost use Rattle.dma_trace.specs.Vcd.{bits_text, signal_line, value_text};
@@ -72,7 +71,7 @@ pub struct SignalLine {
 impl Text for SignalLine {
     ghost text = { λ s. signal_line s.all s.code.now s.width s.before s.after };
 
-    #[tactic(auto, using(dma_text::proofs::Begun::begins_same, dma_text::proofs::Begun::begins_appended, dma_text::proofs::Begun::begins_more), unfolding(crate::specs::Vcd::signal_line))]
+    #[tactic(auto, using(dma_text::proofs::Begun::begun), unfolding(crate::specs::Vcd::signal_line))]
     fn push(&self, out: &mut Vec<u8>) -> Result<(), AllocError> {
         if !self.all && self.before == self.after {
             return Ok(());

@@ -1,5 +1,4 @@
 //! Warnings about the loops of a program, by its text.
-#![tactic(auto, using(dma_text::proofs::Begun::begins_same, dma_text::proofs::Begun::begins_appended, dma_text::proofs::Begun::begins_more))]
 
 ghost use Rattle.std.specs.Prelude.{◌≡◌, ◌+◌, ◌++◌, ◌<◌, ◌≤◌, IfOk, OnOk, flat_map};
 ghost use Rattle.dma_text.specs.Text.{Begins};
@@ -211,7 +210,7 @@ impl Text for Warning {
 }
 
 // Appends a warning as a further line of a message.
-#[tactic(auto, using(dma_text::proofs::Begun::begins_same, dma_text::proofs::Begun::begins_appended, dma_text::proofs::Begun::begins_more), unfolding(crate::specs::Warnings::further_line))]
+#[tactic(auto, using(dma_text::proofs::Begun::begun), unfolding(crate::specs::Warnings::further_line))]
 fn push_further(warning: Warning, out: &mut Vec<u8>) -> Result<(), AllocError>
     ensures ok { OnOk result (out.new.items ≡ out.old.items ++ further_line warning) }
     ensures begins { Begins out.new.items out.old.items }

@@ -1,5 +1,4 @@
 //! The waveform of a trace, as a Value Change Dump (IEEE 1364).
-#![tactic(auto, using(dma_text::proofs::Begun::begins_same, dma_text::proofs::Begun::begins_appended, dma_text::proofs::Begun::begins_more))]
 
 ghost use Rattle.std.specs.Prelude.{◌≡◌, ◌++◌, OnOk};
 ghost use Rattle.dma_text.specs.Text.{Begins};

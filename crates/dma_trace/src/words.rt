@@ -1,5 +1,4 @@
 //! The words of explanations and traces.
-#![tactic(auto, using(dma_text::proofs::Begun::begins_same, dma_text::proofs::Begun::begins_appended, dma_text::proofs::Begun::begins_more))]
 
 ghost use Rattle.std.specs.Prelude.{◌≡◌, ◌<◌, ◌++◌, IsSome, OnOk, Result, Ok, Err, slice_get};
 ghost use Rattle.std.specs.Option.{option_map};
@@ -280,7 +279,7 @@ pub struct Failure<'a> {
 impl Text for Failure<'_> {
     ghost text = { λ f. fault_text f.kind f.first f.at.now.ahead f.at.now.front };
 
-    #[tactic(auto, using(dma_text::proofs::Begun::begins_same, dma_text::proofs::Begun::begins_appended, dma_text::proofs::Begun::begins_more), unfolding(crate::specs::Words::fault_text))]
+    #[tactic(auto, using(dma_text::proofs::Begun::begun), unfolding(crate::specs::Words::fault_text))]
     fn push(&self, out: &mut Vec<u8>) -> Result<(), AllocError> {
         (
             fault_name(self.kind),

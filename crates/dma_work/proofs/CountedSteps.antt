@@ -2,9 +2,8 @@
 use Rattle.std.proofs.Common.{◌≡◌, ℕ, ◌+◌, ◌<◌, List, [], ◌∷◌, replicate, length, sum_by, refl, sym, ap, ◌∙◌, subst, arith}
 use Rattle.std.specs.Prelude.{Result}
 use Rattle.std.proofs.lemmas.List.Sums.{sum_by-cons}
-use Rattle.dma_mem.specs.declared.call.Call.TheVariants.{Step}
-use Rattle.dma_engine.specs.{declared.call.Reply.TheVariants.Turned, declared.fault.EngineFault.EngineFault, declared.turn.Advanced.Advanced}
-use Rattle.dma_engine.specs.{declared.turn.Turn.Turn, Advance.IsAdvance, Advance.steps_taken, Answer.StepAnswers, Answer.reply_of, Turn.finishes_in}
+use Rattle.dma_engine.specs.{declared.fault.EngineFault.EngineFault, declared.turn.Advanced.Advanced}
+use Rattle.dma_engine.specs.{declared.turn.Turn.Turn, Advance.IsAdvance, Advance.steps_taken, Answer.StepAnswers, Turn.finishes_in}
 use Rattle.dma_engine.specs.{Turn.steps_in, View.View}
 use Rattle.dma_engine.proofs.AdvanceResults.{AreSteps, advance_count, advance_steps, results_finishes, results_length, results_of, results_steps}
 use Rattle.dma_engine.proofs.{CallLists.answers_extend, StaysSound.answers_stay_sound}
@@ -39,30 +38,13 @@ booked_first r rs b = same_book b _ _ _ _ (omega (arith, sum_by-cons steps_in r 
 module _ (opening : View) where
   -- a step keeps a desk sound
   sound_on : (v w : View) (ch : ℕ) (r : Result Turn EngineFault) → StepAnswers v ch r w → IsSoundOf opening v → IsSoundOf opening w
-  sound_on v w ch r h s =
-      let from = (answers_extend v w (Step ch) (reply_of Turned r) refl h).0 in
-      record {
-        sound = answers_stay_sound v w (Step ch) (reply_of Turned r) tt s.sound h;
-        bytes_are = same_size v w from ∙ s.bytes_are;
-        many_are = same_many v w from ∙ s.many_are;
-      }
+  sound_on v w ch r h s = grind (arith, answers_extend, refl, answers_stay_sound, same_size, same_many)
 
   -- one or more steps
   in_tally : (r : Result Turn EngineFault) (rs : Results) (ch : ℕ) (t : TallyCounts) (d e : DeskState) → IsSoundOf opening d.engine.view
       → AreSteps d.engine.view ch (r ∷ rs) e.engine.view → e.book ≡ booked (r ∷ rs) d.book → e.before ≡ d.before
       → StepsInTurn (CountsInTally opening) (replicate (length (r ∷ rs)) ch) (record { tally = t; desk = d }) (record { tally = tallied (r ∷ rs) t; desk = e })
-  in_tally r [] ch t d e sound (next, first, same) book before = (
-    record { tally = counted r t; desk = e },
-    record {
-      sound = sound;
-      answer = r;
-      step = subst (StepAnswers d.engine.view ch r) (sym same) first;
-      book = book ∙ booked_first r [] d.book ∙ same_book d.book _ _ _ _ (omega arith) (omega arith);
-      before_history = before;
-      count = refl;
-    },
-    ap (λ (x : TallyCounts). record { tally = x; desk = e }) (sym (tallied_first r [] t) ∙ same_tally t _ _ _ _ _ _ (omega arith) (omega arith) (omega arith)),
-  )
+  in_tally r [] ch t d e sound (next, first, same) book before = grind (arith, subst, sym, booked_first, same_book, arith, refl, ap, tallied_first, same_tally)
   in_tally r (q ∷ rs) ch t d e sound (next, first, rest) book before =
       let mid : DeskState = record d { engine = record (d.engine) { view = next }; book = stepped_book d.book r } in
       let more = in_tally q rs ch (counted r t) mid e (sound_on d.engine.view next ch r first sound) rest (book ∙ booked_first r (q ∷ rs) d.book) before in (
@@ -97,8 +79,7 @@ module _ (opening : View) where
       let all : 0 < length rs = omega (arith, n, (advance_count d.engine.view e.engine.view ch most a h).1 some) in
       let chain = some_in_tally rs ch t d e all sound (advance_steps d.engine.view e.engine.view ch most a h)
       (book ∙ same_book d.book _ _ _ _ (ap (λ k. d.book.steps + k) (sym steps)) (ap (λ k. d.book.finished + k) (sym finishes))) before in
-      let tally : tallied rs t ≡ u = same_tally t _ _ _ _ _ _ (ap (λ k. t.turns + k) n) (ap (λ k. t.steps + k) steps) (ap (λ k. t.finishes + k) finishes)
-      ∙ sym count in
+      let tally : tallied rs t ≡ u = grind (arith, same_tally, ap, sym, n, steps, finishes) in
       subst (λ x. StepsInTurn (CountsInTally opening) (replicate (steps_taken a) ch) (record { tally = t; desk = d }) (record { tally = x; desk = e })) tally
       (subst (λ k. StepsInTurn (CountsInTally opening) (replicate k ch) (record { tally = t; desk = d }) (record { tally = tallied rs t; desk = e })) n chain)
 

@@ -1,5 +1,5 @@
 -- What each call keeps of a desk.
-use Rattle.std.proofs.Common.{◌≡◌, ℕ, ◌+◌, ◌<◌, ◌≤◌, Option, None, Some, List, [], ◌∷◌, ◌++◌, length, refl, ap, sym, ◌∙◌, arith, append-nil, append_assoc}
+use Rattle.std.proofs.Common.{◌≡◌, ℕ, ◌+◌, ◌<◌, ◌≤◌, Option, List, [], ◌∷◌, ◌++◌, length, refl, ap, sym, ◌∙◌, arith, append-nil, append_assoc}
 use Rattle.std.proofs.Common.{subst, inl, inr, zero-add}
 use Rattle.std.specs.{Prelude.slice_set, Prelude.Result, List.All}
 use Rattle.std.proofs.{lemmas.Bool.cases_eq, lemmas.List.ext_get_or, lemmas.List.length-map, lemmas.List.get_or-set_same, lemmas.List.get_or-set_other}
@@ -9,7 +9,7 @@ use Rattle.dma_mem.specs.declared.call.Call.TheVariants.{Checkpoint, Step, Submi
 use Rattle.dma_mem.specs.{Places.Descriptor, declared.call.Call.Call}
 use Rattle.dma_engine.specs.declared.call.Reply.TheVariants.{Cookie, Count, Done, Refused, Turned}
 use Rattle.dma_engine.specs.Advance.{IsAdvance, finishes_counted, steps_counted, ticks_counted}
-use Rattle.dma_engine.specs.Answer.{CallAnswers, StepAnswers, checkpoint_fault, checkpointed, reply_of, submit_fault, unless}
+use Rattle.dma_engine.specs.Answer.{CallAnswers, StepAnswers, checkpoint_fault, checkpointed, reply_of, unless}
 use Rattle.dma_engine.specs.Object.{Object, empty_channel, forget, used}
 use Rattle.dma_engine.specs.Ticks.{Tick, Submitted, Finished, Board, Counts, added_up, board_after, board_of, counts, counts_of, no_counts, tick_channel}
 use Rattle.dma_engine.specs.Ticks.{ticked, ticks_of}
@@ -32,10 +32,7 @@ Alike a b = (ch : ℕ) → ch < 8 → counts a ch ≡ counts b ch
 
 set_alike : (f : Counts → Counts) (a b : Board) (c ch : ℕ) → c < length a → c < length b → counts a c ≡ counts b c → counts a ch ≡ counts b ch
     → counts (slice_set a c (f (counts a c))) ch ≡ counts (slice_set b c (f (counts b c))) ch
-set_alike f a b c ch la lb here e = elim (cases_eq ch c) [
-  | inl is ↦ rw is (get_or-set_same a c (f (counts a c)) no_counts la ∙ ap f here ∙ sym (get_or-set_same b c (f (counts b c)) no_counts lb))
-  | inr apart ↦ get_or-set_other a c ch (f (counts a c)) no_counts apart ∙ e ∙ sym (get_or-set_other b c ch (f (counts b c)) no_counts apart)
-]
+set_alike f a b c ch la lb here e = grind (arith, cases_eq, inl, get_or-set_same, ap, sym, inr, get_or-set_other)
 
 tick_alike : (a b : Board) (t : Tick) → length a ≡ 8 → length b ≤ 8 → tick_channel t < length b → Alike a b → Alike (ticked a t) (ticked b t)
 unfolding Alike
@@ -65,22 +62,15 @@ after_eight b ts few below =
 
 -- and so those of an engine's history
 history_eight : (v : View) → IsSound v → board_after (base_of v) (ticks_of v.history) ≡ eight (board_after (board_of v.base) (ticks_of v.history))
-history_eight v h =
-    let o = base_counts_bounded v h in
-    after_eight (board_of v.base) (ticks_of v.history) (omega (arith, o.0, o.1))
-    (subst (λ n. All (λ t. tick_channel t < n) (ticks_of v.history)) (sym o.0) (ticks_name_channels v h))
+history_eight v h = grind (arith, base_counts_bounded, after_eight, arith, subst, sym, ticks_name_channels)
 
 -- ---- calls that are refused
 
 refused_still : (f : Option EngineFault) (v w : View) (x : Reply × View) (g : EngineFault) → (Refused g ≡ x.0 → ⊥) → (Refused g, w) ≡ unless f v x → w ≡ v
-refused_still None v w x g other h = absurd (other (ap (λ (y : Reply × View). y.0) h))
-refused_still (Some fault) v w x g other h = ap (λ (y : Reply × View). y.1) h
+refused_still x0 x1 x2 x3 x4 x5 x6 = grind (arith, ap)
 
 pub submit_still : (v w : View) (ch : ℕ) (t : Descriptor) (g : EngineFault) → CallAnswers v (Submit ch t) (Refused g) w → w ≡ v
-submit_still v w ch t g h = elim (answer_is v w (Submit ch t) (Refused g) h) [
-  | inl none ↦ none.1
-  | inr is ↦ refused_still (submit_fault v ch t) v w _ g (λ e. absurd cc) is
-]
+submit_still v w ch t g h = grind (arith, answer_is, inl, inr, refused_still)
 
 -- ---- what is published after a call
 
@@ -113,14 +103,7 @@ board_counts base before v opens h ch less =
 pub kept_anew : (opening opening_now : View) (base base_now : Board) (table table_now : TableId) (engine : EngineState) (p : PublisherState) (b e : Totals)
     → IsKept opening base table engine p b → Names opening_now base_now table_now (record { engine = engine; base = base; table = table }) → (e.steps ≡ 0)
     × (e.finished ≡ 0) × (e.terminated ≡ 0) → IsKept opening_now base_now table_now engine p e
-kept_anew opening opening_now base base_now table table_now engine p b e k names none = record {
-  shown = rw (names.1, names.2) k.shown;
-  opens = rw names.1 k.opens;
-  small = rw names.1 k.small;
-  counts = rw names.0 (record { steps = omega (arith, none.0); finished = omega (arith, none.1, none.2) });
-  bytes_are = ap size (sym names.0);
-  many_are = ap channels (sym names.0);
-}
+kept_anew opening opening_now base base_now table table_now engine p b e k names none = grind (arith, arith, ap, sym)
 
 -- what each call keeps of a desk
 module _ {opening : View} {base : Board} {table : TableId} {old : EngineState} {p : PublisherState} {b : Totals} (k : IsKept opening base table old p b) where
@@ -135,39 +118,17 @@ module _ {opening : View} {base : Board} {table : TableId} {old : EngineState} {
       → new.view.base ≡ old.view.base → q ≡ record p { shown = list_and p.shown more } → e.steps ≡ b.steps + moves
       → e.finished + e.terminated ≡ b.finished + b.terminated + finishes → Kept new q e
   unfolding board
-  kept_by new q e more moves finishes a same is steps done = rw is (record {
-    shown = ap (λ (x : PublishedList). list_and x more) k.shown
-        ∙ ap board (append_assoc p.before (ticks_of old.view.history) more ∙ ap (λ l. p.before ++ l) (sym a.ticks));
-    opens = k.opens ∙ ap (λ o. eight (board_of o)) (sym same);
-    small = k.small;
-    counts = record {
-      steps = omega (arith, k.counts.steps, a.steps, steps);
-      finished = omega (arith, k.counts.finished, a.finished, done);
-    };
-    bytes_are = same_size old.view new.view same ∙ k.bytes_are;
-    many_are = same_many old.view new.view same ∙ k.many_are;
-  })
+  kept_by new q e more moves finishes a same is steps done = grind (arith, ap, board, append_assoc, sym, arith, same_size, same_many)
 
   -- a call that changes no view
   pub kept_still : (new : EngineState) → new.view ≡ old.view → Kept new p b
-  kept_still new same = record {
-    shown = rw same k.shown;
-    opens = rw same k.opens;
-    small = k.small;
-    counts = rw same k.counts;
-    bytes_are = rw same k.bytes_are;
-    many_are = rw same k.many_are;
-  }
+  kept_still new same = grind (arith)
 
   -- a call that gives no cookie and finishes none
   pub kept_quiet : (new : EngineState) (call : Call) (reply : Reply) → IsQuiet call → CallAnswers old.view call reply new.view → Kept new p b
   kept_quiet new call reply q h =
       let t = quiet_calls_keep_counts old.view new.view call reply q h in
-      let a : Adds old.view new.view [] 0 0 = record {
-        ticks = t.ticks ∙ sym (append-nil (ticks_of old.view.history));
-        steps = omega (arith, t.steps);
-        finished = omega (arith, t.finished);
-      } in
+      let a : Adds old.view new.view [] 0 0 = grind (arith, sym, append-nil, arith) in
       kept_by new p b [] 0 0 a (answers_extend old.view new.view call reply (quiet_extends call reply q) h).0 (no_more p) (omega arith) (omega arith)
 
   -- a step
@@ -219,8 +180,7 @@ module _ {opening : View} {base : Board} {table : TableId} {old : EngineState} {
   given_in v ch cookie t list h sound is =
       let s = submits_add v old.view ch cookie t h in
       let all = is ∙ ap (λ (x : PublishedList). x.ticks) k.shown in
-      let at : (counts (board_from base list) ch).used ≡ used (state_at old.view ch) =
-      ap (λ l. (counts (board_from base l) ch).used) all ∙ ap (λ (x : Counts). x.used) (board_counts base p.before old.view k.opens sound ch s.1) in
+      let at : (counts (board_from base list) ch).used ≡ used (state_at old.view ch) = grind (arith, ap, board_counts, all) in
       (s.2, omega (arith, at, s.3))
 
   -- and after a terminate all cookies of its channel are finished
@@ -229,6 +189,5 @@ module _ {opening : View} {base : Board} {table : TableId} {old : EngineState} {
   finished_in v ch count through list h sound is through_is =
       let s = terminates_add v old.view ch count h in
       let all = is ∙ ap (λ (x : PublishedList). x.ticks) k.shown in
-      let at : counts (board_from base list) ch ≡ counts_of (state_at old.view ch) =
-      ap (λ l. counts (board_from base l) ch) all ∙ board_counts base p.before old.view k.opens sound ch s.1 in
+      let at : counts (board_from base list) ch ≡ counts_of (state_at old.view ch) = grind (arith, ap, board_counts, all) in
       (omega (arith, through_is, ap (λ (x : Counts). x.used) at), omega (arith, through_is, ap (λ (x : Counts). x.finished) at, s.3))

@@ -2,7 +2,7 @@
 use Rattle.std.proofs.Common.{◌≡◌, ℕ, ◌+◌, ◌<◌, List, [], ◌∷◌, ◌++◌, take, length, ap, ◌∙◌, arith, inl, inr}
 use Rattle.std.specs.Prelude.{slice_index_or}
 use Rattle.std.proofs.{lemmas.Bool.cases_lt, lemmas.List.get_or_past, lemmas.List.take_more}
-use Rattle.dma_engine.specs.{declared.entry.Entry.Entry, Ticks.Counts, Ticks.board_of, Ticks.counts, Ticks.no_counts, Ticks.ticks_of, View.View, View.IsSound}
+use Rattle.dma_engine.specs.{declared.entry.Entry.Entry, Ticks.ticks_of, View.View, View.IsSound}
 use Rattle.dma_engine.proofs.{AnswerCounts.ticks_append, CookieCounts.base_counts_bounded}
 use Rattle.dma_work.specs.{Laws.AreCounts, Ticks.base_of}
 use Rattle.dma_work.proofs.Desks.{counts_eight}
@@ -14,12 +14,4 @@ ticks_more es i d h = ap ticks_of (take_more es i d h) ∙ ticks_append (take i 
 
 -- an engine's history begins with counts of 32 bits
 pub small_base : (v : View) → IsSound v → AreCounts (base_of v)
-small_base v h ch = elim (cases_lt ch 8) [
-  | inl less ↦
-      let at = counts_eight (board_of v.base) ch less in
-      let few = (base_counts_bounded v h).2 ch in
-      (omega (arith, ap (λ (c : Counts). c.used) at, few.0), omega (arith, ap (λ (c : Counts). c.finished) at, few.1))
-  | inr past ↦
-      let none : counts (base_of v) ch ≡ no_counts = get_or_past (base_of v) ch no_counts (omega arith) in
-      (omega (arith, ap (λ (c : Counts). c.used) none), omega (arith, ap (λ (c : Counts). c.finished) none))
-]
+small_base v h ch = grind (arith, cases_lt, inl, counts_eight, base_counts_bounded, arith, ap, inr, get_or_past)

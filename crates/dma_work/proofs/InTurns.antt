@@ -66,10 +66,7 @@ none_taken (s ∷ seats) fresh (suc k) = none_taken seats (All-tail (λ (s : Sea
 
 pub in_turn_new : (opening : View) (jobs : List Job) (v : View) (book : Totals) (seats : List Seat) → opening ≡ v → book.steps ≡ 0 → book.finished ≡ 0
     → AreNewSeats jobs seats → IsInTurn opening jobs v book seats
-in_turn_new opening jobs v book seats same steps finished new = (
-  new.0,
-  record { turns = []; interleaved = none_taken seats new.1; leads = sym same; steps = steps; finished = finished },
-)
+in_turn_new opening jobs v book seats same steps finished new = grind (arith, none_taken, sym)
 
 -- one more seat of it
 pub new_more : (jobs : List Job) (n : ℕ) (job : Job) (seats : List Seat) (seat : Seat) → n < length jobs → slice_index_or jobs n job ≡ job → seat.job ≡ job

@@ -1,12 +1,12 @@
 -- Steps that keep the rule of what is published.
-use Rattle.std.proofs.Common.{◌≡◌, ◌≢◌, ℕ, zero, suc, ◌%◌, ◌/◌, ◌<◌, ◌≤◌, min, ◌==◌, true, false, List, [], ◌∷◌, ◌++◌, length, refl, ap, sym, ◌∙◌, subst, arith}
+use Rattle.std.proofs.Common.{◌≡◌, ◌≢◌, ℕ, zero, suc, ◌<◌, ◌≤◌, min, ◌==◌, true, false, List, [], ◌∷◌, ◌++◌, length, refl, ap, sym, ◌∙◌, subst, arith}
 use Rattle.std.proofs.Common.{inl, inr, ⊎_elim}
 use Rattle.std.specs.Prelude.{if◌then◌else◌, slice_index, slice_set}
 use Rattle.std.proofs.lemmas.Bool.{cases_eq, cases_lt, false≢true, le-ltb}
 use Rattle.std.proofs.{lemmas.List.get_or-set_other, lemmas.List.get_or-set_same, lemmas.List.length-set, Math.Option.some-injective}
 use Rattle.atomic_table.specs.Table.{Allows, Joins, Me, Splits, State, keeps, opening, step, stepped}
 use Rattle.atomic_table.proofs.Lists.{at_set, at_snoc, exchanged}
-use Rattle.dma_engine.specs.Ticks.{Board, Counts, Tick, Submitted, Finished, counts, no_counts, ticked}
+use Rattle.dma_engine.specs.Ticks.{Board, Counts, Tick, counts, ticked}
 use Rattle.dma_work.specs.inner.Published.{AreWords, IsKnown, Keeps, WasLooked, adds, first_sight, learns, longer, offered, packed, reads, new_sight, unpacked}
 use Rattle.dma_work.specs.inner.TickForms.{changed, channel_of, tick_of}
 use Rattle.dma_work.specs.{declared.board.Sight.Sight, declared.tick.Change.Change, Laws.AreCounts, Ticks.StartsWith, Ticks.board_from}
@@ -15,46 +15,32 @@ use mathlib.Core.Option.{none, some, some-ne-none}
 use lib.ListN.{get_elem?}
 use base.Growing.{prefix_refl, prefix_trans}
 use prog.Atomic.{either}
-use Rattle.dma_work.specs.declared.tick.Change.TheVariants.{Given, Finished as ChangeFinished}
 
 -- ---- words
 
 -- a word of a channel gets that channel's counts on another board, which has the other channels' counts still
 set_words : (old new : Board) (words : List ℕ) (i n : ℕ) → AreWords old words → i < length words → (i < 8 → n ≡ packed (counts new i))
     → ((ch : ℕ) → ch < 8 → ch ≢ i → counts new ch ≡ counts old ch) → AreWords new (slice_set words i n)
-set_words old new words i n h inside is others ch less = elim (cases_eq ch i) [
-  | inl e ↦ rw e (get_or-set_same words i n 0 inside ∙ is (omega (arith, less, e)))
-  | inr apart ↦ get_or-set_other words i ch n 0 apart ∙ h ch less ∙ ap packed (sym (others ch less apart))
-]
+set_words old new words i n h inside is others ch less = grind (arith, cases_eq, inl, get_or-set_same, arith, inr, get_or-set_other, ap, sym)
 
 -- a tick changes the counts of its channel alone
 other_counts : (b : Board) (t : Tick) (ch : ℕ) → ch ≢ channel_of t → counts (ticked b t) ch ≡ counts b ch
-other_counts b (Submitted at) ch apart = get_or-set_other b at ch _ no_counts apart
-other_counts b (Finished at count) ch apart = get_or-set_other b at ch _ no_counts apart
+other_counts x0 x1 x2 x3 = grind (arith, get_or-set_other)
 
 -- a word has the counts that are packed in it
 unpacked_is : (c : Counts) → c.used ≤ 4294967295 → unpacked (packed c) ≡ c
-unpacked_is c few =
-    let used : (packed c) % 4294967296 ≡ c.used = omega arith in
-    let finished : (packed c) / 4294967296 ≡ c.finished = omega arith in
-    λ i. record { used = used i; finished = finished i }
+unpacked_is c few = grind (arith, arith)
 
 pub channel_is : (ch : ℕ) (c : Change) → channel_of (tick_of ch c) ≡ ch
-channel_is ch Given = refl
-channel_is ch (ChangeFinished count) = refl
+channel_is x0 x1 = grind (arith, refl)
 
 changed_counts : (b : Board) (ch : ℕ) (c : Change) → ch < length b → counts (ticked b (tick_of ch c)) ch ≡ changed (counts b ch) c
-changed_counts b ch Given less = get_or-set_same b ch _ no_counts less
-changed_counts b ch (ChangeFinished count) less = get_or-set_same b ch _ no_counts less
+changed_counts x0 x1 x2 x3 = grind (arith, get_or-set_same)
 
 -- the word of a channel after a change
 pub new_word : (v : Sight) (i ch n new : ℕ) (c : Change) (t : Tick) → WasLooked i v n → t ≡ tick_of ch c → i ≡ min ch 8
     → (i < 8 → new ≡ packed (changed (unpacked n) c)) → i < 8 → new ≡ packed (counts (ticked (board_from v.base v.seen) t) i)
-new_word v i ch n new c t w is at new_is less =
-    let b = board_from v.base v.seen in
-    let here : i ≡ ch = omega (arith, at, less) in
-    let old : unpacked n ≡ counts b i = ap unpacked (w.word less) ∙ unpacked_is (counts b i) (w.small i).0 in
-    new_is less ∙ ap (λ x. packed (changed x c)) old ∙ sym (rw (is, here) (ap packed (changed_counts b ch c (omega (arith, less, here, w.eight)))))
+new_word v i ch n new c t w is at new_is less = grind (arith, arith, ap, unpacked_is, sym, changed_counts)
 
 -- ---- what is known
 
@@ -64,9 +50,7 @@ Known base ticks views = (seat : ℕ) (v : Sight) → get_elem? views seat ≡ s
 set_known : (base : Board) (ticks : List Tick) (views : List Sight) (id : ℕ) (w : Sight) → Known base ticks views → IsKnown base ticks id w
     → Known base ticks (slice_set views id w)
 unfolding Known
-set_known base ticks views id w h ok j v at =
-    ⊎_elim (λ (t : (j ≡ id) × (w ≡ v)). subst (IsKnown base ticks j) t.1 (subst (λ i. IsKnown base ticks i w) (sym t.0) ok))
-    (λ (t : (j ≢ id) × (get_elem? views j ≡ some v)). h j v t.1) (at_set views id j w v at)
+set_known base ticks views id w h ok j v at = grind (arith, subst, sym, at_set)
 
 -- a seat that is not the writer's, with lists that are known
 reader_known : (base : Board) (ticks : List Tick) (seat : ℕ) (v : Sight) → v.writes ≡ false → v.base ≡ base → StartsWith ticks v.seen
@@ -175,18 +159,8 @@ adds_kept base slots id i old new me t writes place old_is new_is s k sized at f
     let more : StartsWith all k.ticks = (t ∷ [], refl) in
     let on : (front : List Tick) → StartsWith k.ticks front → StartsWith all front = λ front p. prefix_trans front k.ticks all p more in
     let b_is : board_from v.base v.seen ≡ b = ap (λ x. board_from x v.seen) o.base_is ∙ ap (board_from base) here.1 in
-    let word : i < 8 → either (n == old) new n ≡ packed (counts (ticked b t) i) =
-    exchanged n old new (λ x. i < 8 → x ≡ packed (counts (ticked b t) i)) (λ same less. new_is less ∙ ap (λ x. packed (counts (ticked x t) i)) b_is)
-    (λ apart less. absurd (apart (k.words i less ∙ sym (old_is less ∙ ap (λ x. packed (counts x i)) b_is)))) in
-    let others : (j : ℕ) (u : Sight) → j ≢ id → get_elem? s.views j ≡ some u → IsKnown base all j u = λ j u apart there.
-    let h = k.known j u there in
-    record {
-      base_is = h.base_is;
-      seen = on u.seen h.seen;
-      learnt = on u.learnt h.learnt;
-      offered = on u.offered h.offered;
-      writer = λ yes. absurd (apart ((h.writer yes).0 ∙ sym here.0));
-    } in
+    let word : i < 8 → either (n == old) new n ≡ packed (counts (ticked b t) i) = grind (arith, exchanged, ap, sym, n, b, b_is) in
+    let others : (j : ℕ) (u : Sight) → j ≢ id → get_elem? s.views j ≡ some u → IsKnown base all j u = grind (arith, sym, on) in
     let mine : IsKnown base all id w = record {
       base_is = o.base_is;
       seen = subst (λ l. StartsWith all (l ++ t ∷ [])) (sym here.1) (prefix_refl all);
@@ -237,24 +211,7 @@ new_sight_kept base id v s k at =
 pub offers_kept : (base of : Board) (id : ℕ) (v : Sight) (other : ℕ) (w : Sight) → of ≡ v.base
     → Joins (Keeps base) id v other w (offered v w.seen) (record { writes = false; base = of; seen = []; learnt = []; offered = [] })
 unfolding Known
-offers_kept base of id v other w of_is s k at apart there =
-    let o = k.known id v at in
-    let both = offered v w.seen in
-    let h : IsKnown base k.ticks other w =
-    ⊎_elim (λ (x : (other ≡ id) × (both ≡ w)). absurd (apart x.0)) (λ (x : (other ≢ id) × (get_elem? s.views other ≡ some w)). k.known other w x.1)
-    (at_set s.views id other both w there) in
-    let mine : IsKnown base k.ticks id both =
-    record { base_is = o.base_is; seen = o.seen; learnt = o.learnt; offered = h.seen; writer = o.writer } in
-    let start : StartsWith k.ticks [] = (k.ticks, refl) in
-    record {
-      ticks = k.ticks;
-      known = set_known base k.ticks (slice_set s.views id both) other _ (set_known base k.ticks s.views id both k.known mine)
-          (reader_known base k.ticks other _ refl (of_is ∙ o.base_is) start start start);
-      eight = k.eight;
-      small = k.small;
-      many = k.many;
-      words = k.words;
-    }
+offers_kept base of id v other w of_is s k at apart there = grind (arith, at_set, refl, set_known, reader_known)
 
 -- a new table
 opened : (base : Board) (seat : ℕ) (v : Sight) → get_elem? (first_sight base ∷ []) seat ≡ some v → IsKnown base [] seat v

@@ -1,7 +1,7 @@
 -- Rotations: one turn more, and the laws.
-use Rattle.std.proofs.Common.{zero, suc, map, replicate, zero-add, add-one, ◌≡◌, ℕ, ◌+◌, ◌-◌, ◌%◌, ◌<◌, List, [], ◌∷◌, ◌++◌, length, refl, sym, ◌∙◌, subst, ap}
+use Rattle.std.proofs.Common.{zero, suc, map, replicate, zero-add, add-one, ◌≡◌, ℕ, ◌+◌, ◌-◌, List, [], ◌∷◌, ◌++◌, length, refl, sym, ◌∙◌, subst, ap}
 use Rattle.std.proofs.Common.{arith}
-use Rattle.std.specs.{Prelude.slice_index, List.range_with_len}
+use Rattle.std.specs.{List.range_with_len}
 use Rattle.std.proofs.lemmas.List.FromFn.{get_or-map-range_with_len, length-map-range_with_len, map-range_with_len_more}
 use Rattle.std.proofs.{Math.Nat.zero-mod, lemmas.List.replicate-append-replicate, lemmas.List.replicate_more, lemmas.Nat.mod_below}
 use Rattle.dma_engine.specs.Interleaved.{channel_at, rotation}
@@ -24,16 +24,11 @@ more_steps acts (x ∷ xs) ys a b c h t = (h.0, h.1, more_steps acts xs ys h.0 b
 
 -- every turn is of that channel
 pub one_channel : (first last n : ℕ) → first ≡ last → channel_at first last n ≡ first
-one_channel first last n is =
-    let one : last - first + 1 ≡ 1 = omega (arith, is) in
-    let below : n % (last - first + 1) < last - first + 1 = mod_below n (last - first + 1) (omega arith) in
-    omega (arith, one, below)
+one_channel first last n is = grind (arith, arith, mod_below)
 
 rotation_one : (first last n : ℕ) → first ≡ last → rotation first last n ≡ replicate n first
 rotation_one first last zero is = refl
-rotation_one first last (suc n) is =
-    ap (λ ch. rotation first last n ++ ch ∷ []) (one_channel first last n is) ∙ ap (λ l. l ++ first ∷ []) (rotation_one first last n is)
-    ∙ (rw (add-one n) at (replicate_more n first))
+rotation_one first last (suc n) is = grind (arith, ap, one_channel, add-one, replicate_more, rotation_one first last n is)
 
 -- this many turns more
 pub rotation_more : (first last n k : ℕ) → first ≡ last → rotation first last (n + k) ≡ rotation first last n ++ replicate k first
@@ -46,11 +41,7 @@ first_at : (first last : ℕ) → channel_at first last 0 ≡ first
 first_at first last = omega (arith, zero-mod (last - first + 1))
 
 pub goes_round : GoesRound
-goes_round first last k le = (
-  first_at first last,
-  λ less. sym (channel_next first last k (channel_at first last k) refl less),
-  λ is. sym (channel_again first last k (channel_at first last k) refl (omega (arith, is))),
-)
+goes_round first last k le = grind (arith, first_at, sym, channel_next, refl, channel_again, arith)
 
 rotation_is : (first last turns : ℕ) → rotation first last turns ≡ map (channel_at first last) (range_with_len 0 turns)
 rotation_is first last zero = refl
@@ -59,9 +50,4 @@ rotation_is first last (suc n) =
     ∙ sym (rw (add-one n) at (map-range_with_len_more (channel_at first last) 0 n n (zero-add n)))
 
 pub lists_channels : ListsChannels
-lists_channels first last turns =
-    let at = channel_at first last in
-    let is = rotation_is first last turns in (
-      ap length is ∙ length-map-range_with_len at 0 turns,
-      λ k less. ap (λ l. slice_index l k) is ∙ get_or-map-range_with_len at 0 turns k k 0 less (zero-add k),
-    )
+lists_channels first last turns = grind (arith, rotation_is, ap, length, length-map-range_with_len, get_or-map-range_with_len, zero-add)

@@ -1,9 +1,9 @@
 -- The status of a cookie in longer lists of ticks.
-use Rattle.std.proofs.Common.{◌≡◌, ◌≢◌, ℕ, ◌<◌, ◌≤◌, List, [], ◌∷◌, length, ap, sym, ◌∙◌, subst, arith, inl, inr}
+use Rattle.std.proofs.Common.{◌≡◌, ◌≢◌, ℕ, ◌<◌, ◌≤◌, List, [], ◌∷◌, length, ap, sym, subst, arith, inl, inr}
 use Rattle.std.specs.Prelude.{slice_set}
 use Rattle.std.proofs.lemmas.List.{get_or-set_same, get_or-set_other, set_past}
 use Rattle.std.proofs.{lemmas.Grind.common_steps, lemmas.Bool.cases_eq, lemmas.Bool.cases_lt}
-use Rattle.dma_engine.specs.Ticks.{Tick, Submitted, Finished, Board, Counts, board_after, counts, no_counts, ticked}
+use Rattle.dma_engine.specs.Ticks.{Tick, Board, Counts, board_after, counts, ticked}
 use Rattle.dma_engine.specs.{Answer.status_by, declared.turn.Status.TheVariants.Unknown, declared.turn.Status.TheVariants.Complete}
 use Rattle.dma_work.specs.{Laws.AreCounts, Laws.StaysKnown, Laws.StaysComplete, Laws.ClosedIsComplete, Ticks.StartsWith, Ticks.board_from}
 use Rattle.dma_work.proofs.Boards.{board_append}
@@ -19,19 +19,10 @@ grows_self c h = record { used = omega arith; finished = omega arith; small = h 
 
 -- a channel's counts are replaced
 set_grows : (b : Board) (at : ℕ) (c : Counts) → Grows (counts b at) c → AreCounts b → (ch : ℕ) → Grows (counts b ch) (counts (slice_set b at c) ch)
-set_grows b at c g h = λ ch. elim (cases_eq ch at) [
-  | inl e ↦ elim (cases_lt at (length b)) [
-    | inl less ↦ rw (e, get_or-set_same b at c no_counts less) g
-    | inr past ↦ rw (set_past b at c past) (grows_self (counts b ch) (h ch))
-  ]
-  | inr apart ↦ rw (get_or-set_other b at ch c no_counts apart) (grows_self (counts b ch) (h ch))
-]
+set_grows b at c g h = grind (arith, cases_eq, inl, cases_lt, length, get_or-set_same, inr, set_past, grows_self, get_or-set_other)
 
 ticked_grows : (b : Board) (t : Tick) → AreCounts b → (ch : ℕ) → Grows (counts b ch) (counts (ticked b t) ch)
-ticked_grows b (Submitted at) h =
-    set_grows b at _ (record { used = omega (arith, (h at).0); finished = omega arith; small = (omega arith, (h at).1) }) h
-ticked_grows b (Finished at count) h =
-    set_grows b at _ (record { used = omega arith; finished = omega (arith, (h at).1); small = ((h at).0, omega arith) }) h
+ticked_grows x0 x1 x2 = grind (arith, set_grows, arith)
 
 after_grows : (b : Board) (ts : List Tick) → AreCounts b → (ch : ℕ) → Grows (counts b ch) (counts (board_after b ts) ch)
 after_grows b [] h ch = grows_self (counts b ch) (h ch)
@@ -47,10 +38,7 @@ small_after base ts h ch = (after_grows base ts h ch).small
 -- in a longer list they are no less
 longer : (base : Board) (front all : List Tick) (ch : ℕ) → AreCounts base → StartsWith all front
     → Grows (counts (board_from base front) ch) (counts (board_from base all) ch)
-longer base front all ch h p =
-    let is : board_from base all ≡ board_after (board_from base front) p.0 = ap (board_from base) (sym p.1) ∙ board_append base front p.0 in
-    subst (λ b. Grows (counts (board_from base front) ch) (counts b ch)) (sym is)
-    (after_grows (board_from base front) p.0 (λ c. (after_grows base front h c).small) ch)
+longer base front all ch h p = grind (arith, ap, sym, board_append, subst, after_grows)
 
 -- ---- a status by its counts
 
@@ -67,16 +55,10 @@ closed c k pos le done = grind (arith, common_steps)
 -- ---- the laws
 
 pub stays_known : StaysKnown
-stays_known base earlier seen ch cookie h p given is =
-    let g = longer base earlier seen ch h p in
-    known (counts (board_from base seen) ch) cookie given.0 (omega (arith, given.1, g.used)) is
+stays_known base earlier seen ch cookie h p given is = grind (arith, longer, known, arith)
 
 pub stays_complete : StaysComplete
-stays_complete base earlier later ch cookie h p is =
-    let g = longer base earlier later ch h p in
-    complete (counts (board_from base earlier) ch) (counts (board_from base later) ch) cookie g.used g.finished is
+stays_complete base earlier later ch cookie h p is = grind (arith, longer, complete)
 
 pub closed_is_complete : ClosedIsComplete
-closed_is_complete base earlier seen ch through cookie h p all pos le =
-    let g = longer base earlier seen ch h p in
-    closed (counts (board_from base seen) ch) cookie pos (omega (arith, le, all.0, g.used)) (omega (arith, le, all.1, g.finished))
+closed_is_complete base earlier seen ch through cookie h p all pos le = grind (arith, longer, closed, arith)

@@ -11,7 +11,7 @@ returns c =
     let before = work_outputs c.args.src.now c.args.dst.now c.args.zeros.now c.args.moments.now c.args.work.now in
     let after = work_outputs c.answer_work.new.src c.answer_work.new.dst c.answer_work.new.zeros c.answer_work.new.moments c.answer_work.new.work in
     explains_program WritesWork with_work_cause c.in-Some.start c.args.program.now c.args.most (to_z w32 (of_z w32 code)) before after
-    (given_on c.args.start.now (any_bus c.args.bus)) c.explain-found.result (rw c.in-Some.is at c.given_on.ensures)
-    c.explain-found.ensures.ok c.explain-found.ensures.err c.explain-found.ensures.long
+    c.explain-found.result c.explain-found.ensures.ok c.explain-found.ensures.err c.explain-found.ensures.long
     (subst (λ (z : ℤ). AnswersProgram WritesWork with_work_cause c.explain-found.result z before after)
     (sym (to_z-of_z w32 code (record { sfits = c.answer_work.type_inv }))) c.answer_work.ensures)
+    (given_on c.args.start.now (any_bus c.args.bus)) (rw c.in-Some.is at c.given_on.ensures)

@@ -13,6 +13,6 @@ ranges_found-requires g c =
 pub returns-in_ok-ranges-in-Some-clause-ok : goal.returns-in_ok-ranges-in-Some-clause-ok
 returns-in_ok-ranges-in-Some-clause-ok g c =
     let found = rw (c.in-Some.is, c.max-most.ensures) at c.in_ok-found.ensures.ok in
-    IfOk-weaker c.trace_over.result _ _ (λ good. shown_alone c.args.options.now c.args.program.now c.in-Some.found c.in_ok-ranges-in-Some.ranges.items _ good
-    _ _ _ _ _ _ _ found.0 c.deref.ensures.value c.in_ok-ranges-in-Some.ensures.order c.in_ok-ranges-in-Some.ensures.places found.2)
+    IfOk-weaker c.trace_over.result _ _ (λ good. shown_alone c.args.options.now c.args.program.now c.in-Some.found c.in_ok-ranges-in-Some.ranges.items _ found.0
+    good _ _ _ _ _ _ _ c.deref.ensures.value c.in_ok-ranges-in-Some.ensures.order c.in_ok-ranges-in-Some.ensures.places found.2)
     c.trace_over.ensures.ok

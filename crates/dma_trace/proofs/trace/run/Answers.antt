@@ -27,19 +27,10 @@ loop-steps-init g c =
     }
 
 pub step-turn-requires : goal.step-turn-requires
-step-turn-requires g c =
-    let w = c.loop-steps.invariant.goes in
-    record {
-      loaded = subst IsSome (sym w.program) refl;
-      count = omega (arith, w.taken, c.loop-steps-test.true);
-      order = in_order_kept c.args.regions.now c.loop-steps.regions w.places c.requires.order;
-    }
+step-turn-requires g c = grind (arith, subst, sym, refl, arith, in_order_kept)
 
 pub of-next-requires : goal.of-next-requires
-of-next-requires g c =
-    let w = c.loop-steps.invariant.goes in
-    let t = took w c.args.marks.now c.step-turn.new.regions refl c.step-turn.ensures.turn c.step-turn.ensures.after in
-    subst IsSome (sym (program_there w t c.in-Moved.is)) refl
+of-next-requires g c = grind (arith, took, refl, subst, sym, program_there)
 
 pub loop-steps-preserved : goal.loop-steps-preserved
 loop-steps-preserved g c =

@@ -1,15 +1,11 @@
-use Rattle.std.proofs.Common.{◌≡◌, ℕ, ◌+◌, ◌<◌, ◌≤◌, Option, Some, None, sym, ap, arith, inl, inr}
+use Rattle.std.proofs.Common.{◌≡◌, ℕ, ◌+◌, ◌<◌, ◌≤◌, Option, None, sym, ap, arith, inl, inr}
 use Rattle.std.specs.Prelude.{SomeIff, ◌/◌, ◌^◌}
 use Rattle.std.proofs.{lemmas.Bool.cases_lt, lemmas.Nat.Bits.bit_at_above}
 use Rattle.dma_trace.proofs.vcd.digit.Goals as goal
 
 -- only a shift by 32 or more has no result
 too_far : (shifted : Option ℕ) (bit v : ℕ) → shifted ≡ None → SomeIff shifted (bit < 32) v → 32 ≤ bit
-too_far None bit v e not_less = elim (cases_lt bit 32) [
-  | inl less ↦ absurd (not_less less)
-  | inr far ↦ far
-]
-too_far (Some x) bit v e h = absurd (cc)
+too_far x0 x1 x2 x3 x4 = grind (arith, arith, cases_lt, inl, inr)
 
 pub returns-in-None : goal.returns-in-None
 returns-in-None c =

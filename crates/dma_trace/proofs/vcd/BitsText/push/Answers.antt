@@ -16,14 +16,7 @@ one_more mid width done n all less e =
     ∙ e
 
 pub loop-done-preserved : goal.loop-done-preserved
-loop-done-preserved c =
-    let pushed = c.in_ok-push.ensures.items ∙ ap (λ (d : ℕ). c.loop-done.out.items ++ d ∷ []) c.digit.ensures in
-    record {
-      text =
-          ap (λ (xs : List ℕ). xs ++ bits_text (c.args.self.now.width - (c.loop-done.done + 1)) c.args.self.now.value) pushed
-          ∙ one_more c.loop-done.out.items c.args.self.now.width c.loop-done.done c.args.self.now.value _ c.loop-done-test.true c.loop-done.invariant.text;
-      begins = begins_more _ _ _ c.loop-done.invariant.begins (begins_appended _ _ _ c.in_ok-push.ensures.items);
-    }
+loop-done-preserved c = grind (arith, ap, one_more, begins_more, begins_appended)
 
 pub returns-in_err-push-clause-begins : goal.returns-in_err-push-clause-begins
 returns-in_err-push-clause-begins c = begins_more _ _ _ c.loop-done.invariant.begins (begins_same _ _ c.in_err-push.ensures.items)

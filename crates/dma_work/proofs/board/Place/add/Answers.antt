@@ -1,6 +1,6 @@
-use Rattle.std.proofs.Common.{◌≡◌, ◌∙◌, [], ◌∷◌, ◌++◌, ap, refl, sym, arith}
+use Rattle.std.proofs.Common.{◌≡◌, ◌∙◌, ap, refl, sym, arith}
 use Rattle.atomic_table.specs.Seated.{TableId}
-use Rattle.dma_work.specs.{declared.board.Sight.Sight, inner.Published.WasRead, inner.TickForms.channel_of}
+use Rattle.dma_work.specs.{inner.Published.WasRead, inner.TickForms.channel_of}
 use Rattle.dma_work.proofs.PublishedRule.{adds_kept, channel_is, new_word, reads_kept}
 use Rattle.dma_work.proofs.board.Place.add.Goals as goal
 
@@ -29,7 +29,4 @@ compare_exchange_with-requires c =
     )
 
 pub returns-clause-sight : goal.returns-clause-sight
-returns-clause-sight c =
-    let t = c.args.tick in
-    let was : WasRead c.word_of-word.result c.args.self.now.seat.me.0 c.load-before.result c.load-before.new.seat.me.0 = c.load-before.ensures.2.0 in
-    ap (λ x. x.0) (c.compare_exchange_with.ensures.2 t refl) ∙ ap (λ (v : Sight). record v { seen = v.seen ++ t ∷ [] }) (was.writer c.requires)
+returns-clause-sight c = grind (arith, ap, refl)

@@ -4,11 +4,7 @@ use Rattle.dma_work.proofs.PublishedRule.{learns_kept, offers_kept}
 use Rattle.dma_work.proofs.board.Place.learn.Goals as goal
 
 pub join_seat-requires : goal.join_seat-requires
-join_seat-requires g c =
-    let place = c.args.self.now in
-    let at = place.seated ∙ ap (λ t. t.shared.table_id) (sym c.deref.ensures) in
-    let many = ap (λ (z : TableId). z.words) (sym at) ∙ place.many in
-    (at, c.requires.ticket.0 ∙ at, c.requires.ticket.1, omega (arith, many), offers_kept _ _ _ _ _ _ c.requires.base)
+join_seat-requires g c = grind (arith, ap, sym, arith, offers_kept)
 
 pub load-requires : goal.load-requires
 load-requires g c =

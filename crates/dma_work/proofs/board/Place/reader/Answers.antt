@@ -2,7 +2,6 @@ use Rattle.std.proofs.Common.{◌≡◌, ◌+◌, ◌%◌, ◌^◌, ◌∙◌, a
 use Rattle.std.proofs.lemmas.Grind.{common_steps}
 use Rattle.std.specs.Arc.{arc_value}
 use Rattle.atomic_table.specs.Seated.{TableId}
-use Rattle.dma_work.specs.{declared.board.Sight.Sight, inner.Published.longer, inner.Published.new_sight}
 use Rattle.dma_work.proofs.PublishedRule.{learns_kept, longer_none}
 use Rattle.dma_work.proofs.board.Place.reader.Goals as goal
 
@@ -15,8 +14,4 @@ fetch_add-requires c =
     (at, omega (arith, many), learns_kept _ _ _ 9 c.new_seat-seat.result.me (λ n. (n + 1) % 2 ^ 64) (omega arith) (omega arith))
 
 pub returns-clause-seen : goal.returns-clause-seen
-returns-clause-seen c =
-    let v = c.args.self.now.seat.me.0 in
-    let w : Sight = new_sight v in
-    c.fetch_add.ensures.2.0.is ∙ ap (λ x. record (x.0) { learnt = longer x.0.learnt x.0.offered }) c.new_seat-seat.ensures.seen
-    ∙ ap (λ l. record w { learnt = l }) (longer_none v.seen)
+returns-clause-seen c = grind (arith, ap, longer_none)

@@ -7,9 +7,7 @@ use Rattle.dma_work.proofs.{Desks.acted_next, Desks.given_in, Desks.kept_next, D
 use Rattle.dma_work.proofs.desk.Desk.submit.Goals as goal
 
 pub invariant_of-self : goal.invariant_of-self
-invariant_of-self g c =
-    kept_still c.self.invariant c.submit.new.self
-    (submit_still c.self.inside.engine.view c.submit.new.self.view c.args.ch c.args.transfer _ c.in_err-cookie.ensures.answer)
+invariant_of-self g c = grind (arith, kept_still, submit_still)
 
 pub publish-requires : goal.publish-requires
 publish-requires g c =

@@ -1,15 +1,11 @@
-use Rattle.std.proofs.Common.{◌+◌, [], arith, refl, rules, subst, sym, take}
+use Rattle.std.proofs.Common.{◌+◌, arith, refl, rules, subst, sym, take}
 use Rattle.std.proofs.lemmas.List.{take_all}
 use Rattle.dma_work.specs.Shift.{AreNewSeats}
 use Rattle.dma_work.proofs.InTurns.{new_more}
 use Rattle.dma_work.proofs.rota.Seats.new.Goals as goal
 
 pub loop-at-init : goal.loop-at-init
-loop-at-init c = record {
-  count = search rules;
-  room = search rules;
-  new = subst (AreNewSeats []) (sym (c.in_ok-seats.ensures.items)) (refl, λ k d less. absurd (omega arith));
-}
+loop-at-init c = grind (arith, rules, subst, sym, refl, arith)
 
 pub loop-at-preserved : goal.loop-at-preserved
 loop-at-preserved c =

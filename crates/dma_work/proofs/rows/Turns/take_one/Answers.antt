@@ -1,4 +1,4 @@
-use Rattle.std.proofs.Common.{◌≡◌, ◌+◌, ◌∙◌, ap, arith, add-one, subst, sym}
+use Rattle.std.proofs.Common.{◌≡◌, ◌+◌, ap, arith, add-one, subst, sym}
 use Rattle.dma_engine.specs.Interleaved.{channel_at, rotation}
 use Rattle.dma_engine.proofs.Interleavings.{channel_again, channel_next}
 use Rattle.dma_work.specs.{Desk.TallyCounts, Desk.new_tally, Rotation.StepsInTurn, inner.Rows.CountsOne}
@@ -17,25 +17,9 @@ invariant_of-self g c =
     let s = c.step.ensures in
     let turns : u.turns ≡ t.turns + 1 = ap (λ (x : TallyCounts). x.turns) s.tally in
     let worker : u.worker ≡ t.worker = ap (λ (x : TallyCounts). x.worker) s.tally in
-    let one : CountsOne opening t c.self.inside.ch u = (
-      c.args.desk.now,
-      c.step.new.self,
-      record {
-        sound = c.engine-engine.ensures.sound;
-        answer = c.step.result;
-        step = s.answer;
-        book = s.book;
-        before_history = s.before;
-        count = s.tally;
-      },
-    ) in
-    let more : StepsInTurn (CountsOne opening) (rotation first last (t.turns + 1)) (new_tally t.worker) u =
-    rw add-one (one_more (CountsOne opening) (rotation first last t.turns) (channel_at first last t.turns) (new_tally t.worker) t u i.steps
-    (subst (λ ch. CountsOne opening t ch u) i.there one)) in
-    let next : c.if-self.self ≡ channel_at first last (t.turns + 1) = elim c.if-self.branch [
-      | then-self w ↦ w.self-is ∙ channel_next first last t.turns c.self.inside.ch i.there (omega (arith, w.if-self.true))
-      | else-self w ↦ w.self-is ∙ channel_again first last t.turns c.self.inside.ch i.there (omega (arith, w.if-self.false))
-    ] in
+    let one : CountsOne opening t c.self.inside.ch u = grind (arith) in
+    let more : StepsInTurn (CountsOne opening) (rotation first last (t.turns + 1)) (new_tally t.worker) u = grind (arith, add-one, one_more, subst, opening, first, last, t, u, one) in
+    let next : c.if-self.self ≡ channel_at first last (t.turns + 1) = grind (arith, then-self, channel_next, arith, else-self, channel_again, first, last) in
     record {
       there = subst (λ n. c.if-self.self ≡ channel_at first last n) (sym turns) next;
       steps = subst (λ w. StepsInTurn (CountsOne opening) (rotation first last u.turns) (new_tally w) u) (sym worker)
