@@ -15,7 +15,7 @@ use dma_manual::notes::{end_warning, hint, with_form};
 use dma_manual::pasted::{Pasted, Spelling, read_pasted};
 use dma_manual::refusal::refusal;
 use dma_mem::regions::Region;
-use dma_seeds::faults::push_run_message;
+use dma_seeds::faults::push_script_fault;
 use dma_seeds::race::race_by_seed;
 use dma_seeds::seeds::race_by_seeds;
 use dma_text::text::print;
@@ -87,14 +87,17 @@ fn tracing<P: Progress>(
 }
 
 /// Returns what `why` prints for a script.
+#[tactic(auto, using(dma_seeds::proofs::FaultLemmas::message_by))]
 fn reasons(alloc: Global, script: &[u8]) -> Result<Answer, AllocError>
     ensures { IfOk result (λ answer. Reasons script.now (prints_of answer)) }
 {
     let mut out = Vec::new(alloc);
-    let succeeds = why(alloc, script, &mut out)?;
     let mut err = Vec::new(alloc);
-    push_run_message(alloc, script, &mut err)?;
-    Ok(Answer::new(out, err, Vec::new(alloc), succeeds))
+    let fault = why(alloc, script, &mut out)?;
+    if let Some(fault) = fault {
+        push_script_fault(script, fault, &mut err)?;
+    }
+    Ok(Answer::new(out, err, Vec::new(alloc), fault.is_none()))
 }
 
 /// Returns what a request prints for a program.

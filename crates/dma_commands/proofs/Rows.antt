@@ -1,4 +1,5 @@
 -- Small scripts, and what each of their lines prints, computed from the definitions.
+use Prim.Native.String.{String}
 use Rattle.std.proofs.Common.{◌≡◌, ℕ, List, [], ◌∷◌, ◌++◌, refl}
 use Rattle.std.specs.Prelude.{None, Result, Ok, Err, codes, decimal}
 use Rattle.dma_mem.specs.{Image.put, Image.after_moves, Places.Descriptor, Places.copying, Places.share, declared.call.Call.Call}
@@ -21,8 +22,8 @@ abbrev Prints : List ℕ → List (List ℕ) → Type 0
 Prints script lines = (printed script).groups ≡ [] ∷ one_each lines
 
 -- words and a number
-abbrev numbered : List ℕ → ℕ → List ℕ
-numbered words n = words ++ decimal n
+abbrev numbered : String → ℕ → List ℕ
+numbered words n = codes words ++ decimal n
 
 no_line : (printed []).groups ≡ one_each (fault_line (record { line = 0; cause = First }) ∷ [])
 no_line = refl
@@ -46,20 +47,20 @@ unfolding put after_moves opening share running
 fill_rules = refl
 
 fill_in_a_queue : Prints (codes "memory 8 1\nsubmit 0 fill 0 to 2+2,6+1\nfill 0 to 2+2\nissue 0\nterminate 0\nresult 0 1\n")
-    (numbered (codes "cookie ") 1 ∷ codes "refused ChannelInUse" ∷ numbered (codes "issued ") 1 ∷ numbered (codes "aborted ") 1 ∷
-    numbered (codes "result Aborted residue ") 3 ∷ [])
+    (numbered "cookie " 1 ∷ codes "refused ChannelInUse" ∷ numbered "issued " 1 ∷ numbered "aborted " 1 ∷
+    numbered "result Aborted residue " 3 ∷ [])
 unfolding put after_moves opening share running
 fill_in_a_queue = refl
 
 queues : Prints (codes "memory 8 1\nsubmit 0 0+2 to 2+2\nstatus 0 1\ncopy 0+2 to 2+2\nissue 0\nterminate 0\nresult 0 1\nstatus 0 1\nstep 0 2\n")
-    (numbered (codes "cookie ") 1 ∷ codes "status InProgress" ∷ codes "refused ChannelInUse" ∷ numbered (codes "issued ") 1 ∷ numbered (codes "aborted ") 1 ∷
-    numbered (codes "result Aborted residue ") 2 ∷ codes "status Complete" ∷ step_line 0 (codes "nothing", 2) ∷ [])
+    (numbered "cookie " 1 ∷ codes "status InProgress" ∷ codes "refused ChannelInUse" ∷ numbered "issued " 1 ∷ numbered "aborted " 1 ∷
+    numbered "result Aborted residue " 2 ∷ codes "status Complete" ∷ step_line 0 (codes "nothing", 2) ∷ [])
 unfolding put after_moves opening share running
 queues = refl
 
 pauses : Prints (codes "memory 8 1\nsubmit 0 0+2 to 2+2\nissue 0\npause 0\nstep 0 3\nresume 0\nstep 0\nwrite 0 AA\nread 4+1\n")
-    (numbered (codes "cookie ") 1 ∷ numbered (codes "issued ") 1 ∷ codes "ok" ∷ step_line 0 (codes "paused", 3) ∷ codes "ok" ∷
-    step_line 0 (numbered (codes "started ") 1, 1) ∷ refused_line (fault_text (Busy 0 1)) ∷ codes "read 0x00000004 00" ∷ [])
+    (numbered "cookie " 1 ∷ numbered "issued " 1 ∷ codes "ok" ∷ step_line 0 (codes "paused", 3) ∷ codes "ok" ∷
+    step_line 0 (numbered "started " 1, 1) ∷ refused_line (fault_text (Busy 0 1)) ∷ codes "read 0x00000004 00" ∷ [])
 unfolding put after_moves opening share running
 pauses = refl
 
@@ -93,8 +94,8 @@ some_replies =
     replies.Turned Moved ∷ replies.Cookie 8 ∷ []
 
 replies_in_order : groups_read (run_script_of some_lines) some_replies ≡ [] ∷ one_each
-    (codes "ok" ∷ codes "refused EmptySegment" ∷ codes "refused OutOfMemoryRange" ∷ numbered (codes "cookie ") 5 ∷ codes "refused ChannelInUse" ∷ numbered
-    (codes "issued ") 6 ∷ totals_line 3 0 0 ∷ []) ++ (step_line 0 (numbered (codes "started ") 7, 1) ∷ step_line 0 (codes "moved", 2) ∷ []) ∷ one_each
-    (numbered (codes "status ") 8 ∷ [])
+    (codes "ok" ∷ codes "refused EmptySegment" ∷ codes "refused OutOfMemoryRange" ∷ numbered "cookie " 5 ∷ codes "refused ChannelInUse"
+    ∷ numbered "issued " 6 ∷ totals_line 3 0 0 ∷ []) ++ (step_line 0 (numbered "started " 7, 1) ∷ step_line 0 (codes "moved", 2) ∷ []) ∷ one_each
+    (numbered "status " 8 ∷ [])
 unfolding put after_moves opening share running
 replies_in_order = refl

@@ -116,17 +116,18 @@ pub lengths_fit : (groups : List (List (List ℕ))) (text lengths : List ℕ) �
 lengths_fit groups text lengths p = omega (arith, ap sum p.measured, ap length p.appended, lengths_add groups)
 
 -- what a race printed: what its lines before `go` print, the line of `go`, and what the lines after it print
-pub raced_from : (v w x : View) (script : RaceScript) (turns : List JobTurn) (early : ℕ) (a b c d l m n o : List ℕ) → w ≡ lines_left v script.before.statements
-    → Prints (lines_answered v script.before.statements) a b l m → early ≡ length b → x ≡ (turns_taken w turns).1
-    → Prints ((go_line (turns_taken w turns).0 ∷ []) ∷ []) b c m n → Prints (lines_answered x script.after) c d n o → RacedFrom v script turns early a d l o
-raced_from v w x script turns early a b c d l m n o left first at on went last =
+pub raced_from : (v w x : View) (script : RaceScript) (turns : List JobTurn) (a b c d l m n o : List ℕ) → w ≡ lines_left v script.before.statements
+    → Prints (lines_answered v script.before.statements) a b l m → x ≡ (turns_taken w turns).1
+    → Prints ((go_line (turns_taken w turns).0 ∷ []) ∷ []) b c m n → Prints (lines_answered x script.after) c d n o
+    → RacedFrom v script turns (length b) a d l o
+raced_from v w x script turns a b c d l m n o left first on went last =
     let behind = from_go (lines_left v script.before.statements) turns script.after in
     let rest : Prints behind b d m o = subst (λ (y : View). Prints (from_go y turns script.after) b d m o) left
     (prints_both _ _ b c d m n o went (subst (λ (y : View). Prints (lines_answered y script.after) c d n o) on last)) in
     record {
       all = prints_both _ behind a b d l m o first rest;
-      within = omega (arith, at, ap length rest.appended, length-append b (printed_text behind));
-      behind = ap (λ k. drop k d) at ∙ ap (drop (length b)) rest.appended ∙ drop-append_seam b (printed_text behind);
+      within = omega (arith, ap length rest.appended, length-append b (printed_text behind));
+      behind = ap (drop (length b)) rest.appended ∙ drop-append_seam b (printed_text behind);
     }
 
 -- what one printed alone that began after its memory line, which prints nothing

@@ -82,12 +82,6 @@ pub record Follows (steps : List Statement) (before : Option RunScript) (after :
 memory_there : (before : Option RunScript) (u : Unit {0}) → behind_memory before ≡ Ok u → (b : RunScript) × (before ≡ Some b)
 memory_there before u h = grind (arith)
 
--- a line that `run` knows
-module _ (line word : List ℕ) (words : List (List ℕ)) (are : words_of line ≡ word ∷ words) (kept : (slice_index word 0 == 35) ≡ false)
-    (plain : list_all is_plain line ≡ true) (k : Keyword) (spelled : keyword_of word ≡ Some k) where
-  one_line : (r s : Option RunScript) → next_line r k words ≡ Ok s → after_line run_step r line ≡ Ok s
-  one_line r s is = rw (are, kept, plain, spelled) is
-
 module _ (turns : List (List ℕ)) (steps : List Statement) (as_steps : ReadAsSteps turns steps) (turns_plain : ArePlain turns) where
   go_read : (before : Option RunScript) (b : RunScript) → before ≡ Some b → Reads before turns (state steps before (Some []))
   go_read before b there = grind (arith, append-nil)
@@ -97,58 +91,63 @@ module _ (turns : List (List ℕ)) (steps : List Statement) (as_steps : ReadAsSt
       → Reads (state steps (Some b) (Some after)) (line ∷ []) (state steps (Some b) (Some (after ++ st ∷ [])))
   later_read b after st line one = grind (arith, append_assoc)
 
-  step_follows : (before : Option RunScript) (jobs : List JobLine) (after : Option (List Statement)) (line word : List ℕ) (words : List (List ℕ))
-      → words_of line ≡ word ∷ words → (slice_index word 0 == 35) ≡ false → list_all is_plain line ≡ true → Begun before after
-      → IfOk (race_step (record { before = before; jobs = jobs; after = after }) (word ∷ words))
-      (λ next. Follows steps before after (if bytes_eq word (codes "job") then [] else (if bytes_eq word (codes "go") then turns else line ∷ [])) next)
-  step_follows before jobs None line word words are kept plain begun = elim (cases_Bool (bytes_eq word (codes "job"))) [
-    | inl job ↦
-        let P = λ (next : RaceRead). Follows steps before None [] next in
-        rw job
-        (bind_eq P (behind_memory before) _
-        (λ u there. bind_eq P (job_line words) _ (λ j spelled. bind_eq P (where_holds (nat_lt (length jobs) most_jobs) causes.Range) _ (λ w few.
-        record { read = refl; begun = tt; plain = tt }))))
-    | inr other_word ↦ rw other_word (elim (cases_Bool (bytes_eq word (codes "go"))) [
-      | inl go ↦
-          let P = λ (next : RaceRead). Follows steps before None turns next in
-          rw go
-          (bind_eq P (behind_memory before) _ (λ u there. bind_eq P (no_words words) _ (λ w bare.
-          let b = memory_there before u there in
-          record { read = go_read before b.0 b.1; begun = b; plain = turns_plain })))
-      | inr other ↦ rw other (elim (option_cases (keyword_of word)) [
-        | inl none ↦ rw none tt
-        | inr (k, spelled) ↦ rw spelled (elim (cases_Bool (is_early k)) [
-          | inl early ↦
-              let P = λ (next : RaceRead). Follows steps before None (line ∷ []) next in
-              rw early
-              (bind_eq P (next_line before k words) _ (λ b is.
-              record { read = (b, one_line line word words are kept plain k spelled before b is, refl); begun = tt; plain = (plain, tt) }))
-          | inr late ↦ rw late tt
+  -- a line that is not skipped
+  module _ (line word : List ℕ) (words : List (List ℕ)) (are : words_of line ≡ word ∷ words) (kept : (slice_index word 0 == 35) ≡ false)
+      (plain : list_all is_plain line ≡ true) where
+    one_line : (k : Keyword) → keyword_of word ≡ Some k → (r s : Option RunScript) → next_line r k words ≡ Ok s → after_line run_step r line ≡ Ok s
+    one_line k spelled r s is = rw (are, kept, plain, spelled) is
+
+    step_follows : (before : Option RunScript) (jobs : List JobLine) (after : Option (List Statement)) → Begun before after
+        → IfOk (race_step (record { before = before; jobs = jobs; after = after }) (word ∷ words))
+        (λ next. Follows steps before after (if bytes_eq word (codes "job") then [] else (if bytes_eq word (codes "go") then turns else line ∷ [])) next)
+    step_follows before jobs None begun = elim (cases_Bool (bytes_eq word (codes "job"))) [
+      | inl job ↦
+          let P = λ (next : RaceRead). Follows steps before None [] next in
+          rw job
+          (bind_eq P (behind_memory before) _
+          (λ u there. bind_eq P (job_line words) _ (λ j spelled. bind_eq P (where_holds (nat_lt (length jobs) most_jobs) causes.Range) _ (λ w few.
+          record { read = refl; begun = tt; plain = tt }))))
+      | inr other_word ↦ rw other_word (elim (cases_Bool (bytes_eq word (codes "go"))) [
+        | inl go ↦
+            let P = λ (next : RaceRead). Follows steps before None turns next in
+            rw go
+            (bind_eq P (behind_memory before) _ (λ u there. bind_eq P (no_words words) _ (λ w bare.
+            let b = memory_there before u there in
+            record { read = go_read before b.0 b.1; begun = b; plain = turns_plain })))
+        | inr other ↦ rw other (elim (option_cases (keyword_of word)) [
+          | inl none ↦ rw none tt
+          | inr (k, spelled) ↦ rw spelled (elim (cases_Bool (is_early k)) [
+            | inl early ↦
+                let P = λ (next : RaceRead). Follows steps before None (line ∷ []) next in
+                rw early
+                (bind_eq P (next_line before k words) _ (λ b is.
+                record { read = (b, one_line k spelled before b is, refl); begun = tt; plain = (plain, tt) }))
+            | inr late ↦ rw late tt
+          ])
         ])
       ])
-    ])
-  ]
-  step_follows before jobs (Some after) line word words are kept plain (b, there) = elim (cases_Bool (bytes_eq word (codes "job"))) [
-    | inl job ↦ rw job tt
-    | inr other_word ↦ rw other_word (elim (cases_Bool (bytes_eq word (codes "go"))) [
-      | inl go ↦ rw go tt
-      | inr other ↦ rw other (elim (option_cases (keyword_of word)) [
-        | inl none ↦ rw none tt
-        | inr (k, spelled) ↦
-            let P = λ (next : RaceRead). Follows steps before (Some after) (line ∷ []) next in
-            rw spelled
-            (bind_eq P (later_line k words) _ (λ st is.
-            let whole = record b { statements = (b.statements ++ steps) ++ after } in
-            let later : next_line (Some whole) k words ≡ Ok (Some (record b { statements = ((b.statements ++ steps) ++ after) ++ st ∷ [] })) = rw is refl in
-            record {
-              read = subst (λ x. Reads (state steps x (Some after)) (line ∷ []) (state steps x (Some (after ++ st ∷ [])))) (sym there)
-                  (later_read b after st line (one_line line word words are kept plain k spelled (Some whole) _ later));
-              begun = (b, there);
-              plain = (plain, tt);
-            }))
+    ]
+    step_follows before jobs (Some after) (b, there) = elim (cases_Bool (bytes_eq word (codes "job"))) [
+      | inl job ↦ rw job tt
+      | inr other_word ↦ rw other_word (elim (cases_Bool (bytes_eq word (codes "go"))) [
+        | inl go ↦ rw go tt
+        | inr other ↦ rw other (elim (option_cases (keyword_of word)) [
+          | inl none ↦ rw none tt
+          | inr (k, spelled) ↦
+              let P = λ (next : RaceRead). Follows steps before (Some after) (line ∷ []) next in
+              rw spelled
+              (bind_eq P (later_line k words) _ (λ st is.
+              let whole = record b { statements = (b.statements ++ steps) ++ after } in
+              let later : next_line (Some whole) k words ≡ Ok (Some (record b { statements = ((b.statements ++ steps) ++ after) ++ st ∷ [] })) = rw is refl in
+              record {
+                read = subst (λ x. Reads (state steps x (Some after)) (line ∷ []) (state steps x (Some (after ++ st ∷ [])))) (sym there)
+                    (later_read b after st line (one_line k spelled (Some whole) _ later));
+                begun = (b, there);
+                plain = (plain, tt);
+              }))
+        ])
       ])
-    ])
-  ]
+    ]
 
   words_follow : (read : RaceRead) (line : List ℕ) (words : List (List ℕ)) → words_of line ≡ words → Begun read.before read.after
       → IfOk (if is_skipped words then Ok read else (if list_all is_plain line then race_step read words else Err causes.Byte))
@@ -157,7 +156,7 @@ module _ (turns : List (List ℕ)) (steps : List Statement) (as_steps : ReadAsSt
   words_follow read line (word ∷ words) are begun = elim (cases_Bool (slice_index word 0 == 35)) [
     | inl skip ↦ rw skip (record { read = refl; begun = begun; plain = tt })
     | inr kept ↦ rw kept (elim (cases_Bool (list_all is_plain line)) [
-      | inl plain ↦ rw plain (step_follows read.before read.jobs read.after line word words are kept plain begun)
+      | inl plain ↦ rw plain (step_follows line word words are kept plain read.before read.jobs read.after begun)
       | inr odd ↦ rw odd tt
     ])
   ]

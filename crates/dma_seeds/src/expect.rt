@@ -11,7 +11,7 @@ ghost use Rattle.dma_seeds.specs.inner.Measured.{pieces};
 
 use dma_io::printing::print_line;
 use dma_mem::lists::Bytes;
-use dma_script::words::{next_word, split_line};
+use dma_script::words::{next_word, split_script_line};
 use dma_text::bytes::is_text;
 use dma_text::text::Text;
 use std::alloc::{AllocError, Global};
@@ -131,7 +131,7 @@ fn has_expects(script: &[u8]) -> bool
 {
     let mut rest = script;
     while !rest.is_empty() {
-        let (line, after) = split_line(rest);
+        let (line, after) = split_script_line(rest);
         if expected_in(line).is_some() {
             return true;
         }
@@ -147,7 +147,7 @@ fn emptied_lines(alloc: Global, script: &[u8]) -> Result<Vec<u8>, AllocError>
     let mut text = Vec::new(alloc);
     let mut rest = script;
     while !rest.is_empty() {
-        let (line, after) = split_line(rest);
+        let (line, after) = split_script_line(rest);
         let kept = if expected_in(line).is_some() {
             &[]
         } else {
@@ -225,7 +225,7 @@ impl<'a> Printed<'a> {
         if self.left.is_empty() {
             return None;
         }
-        let (line, left) = split_line(self.left);
+        let (line, left) = split_script_line(self.left);
         self.left = left;
         Some(line)
     }
@@ -309,7 +309,7 @@ pub(crate) fn lines_verdict(
     let mut rest = script;
     let mut number = 0usize;
     while !rest.is_empty() {
-        let (line, after) = split_line(rest);
+        let (line, after) = split_script_line(rest);
         number += 1;
         match after_line(alloc, seed, number, line, printed)? {
             Ok(next) => printed = next,

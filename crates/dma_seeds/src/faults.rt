@@ -1,16 +1,15 @@
 //! Messages for the first fault of a script: the number of its line, the cause, and the line.
-#![tactic(auto, using(dma_text::proofs::Begun::begins_same, dma_text::proofs::Begun::begins_appended, dma_text::proofs::Begun::begins_more))]
+#![tactic(auto, using(dma_text::proofs::Begun::begun))]
 
 ghost use Rattle.std.specs.Prelude.{◌≡◌, ◌++◌, IfOk, OnOk, map};
 ghost use Rattle.dma_text.specs.Text.{Begins};
 ghost use Rattle.dma_io.specs.Answer.{prints_of};
-ghost use Rattle.dma_seeds.specs.Faults.{fault_text, line_at, missing_message, refused, run_message, shown_byte, shown_line};
+ghost use Rattle.dma_seeds.specs.Faults.{fault_text, line_at, missing_message, refused, shown_byte, shown_line};
 
 use dma_io::answer::Answer;
 use dma_io::printing::print_line;
-use dma_script::fault::{Cause, Fault, ScriptError};
-use dma_script::statements::read_run_script;
-use dma_script::words::split_line;
+use dma_script::fault::{Cause, Fault};
+use dma_script::words::split_script_line;
 use dma_text::text::Text;
 use std::alloc::{AllocError, Global};
 
@@ -60,7 +59,7 @@ fn line_at(script: &[u8], number: usize) -> &[u8]
     let mut rest = script;
     let mut before = number.saturating_sub(1);
     while !rest.is_empty() {
-        let (line, after) = split_line(rest);
+        let (line, after) = split_script_line(rest);
         if before == 0 {
             return line;
         }
@@ -80,8 +79,8 @@ fn missing_message(cause: Cause) -> &'static str
     }
 }
 
-/// Appends the message for a fault of a script. Fails if memory runs out.
-fn push_fault(script: &[u8], fault: Fault, out: &mut Vec<u8>) -> Result<(), AllocError>
+/// Appends the message for a fault of a script. Fails if memory runs out, and may have appended a part of it then.
+pub fn push_script_fault(script: &[u8], fault: Fault, out: &mut Vec<u8>) -> Result<(), AllocError>
     ensures ok { OnOk result (out.new.items ≡ out.old.items ++ fault_text script.now fault) }
     ensures begins { Begins out.new.items out.old.items }
 {
@@ -100,19 +99,6 @@ pub(crate) fn refused(alloc: Global, script: &[u8], fault: Fault) -> Result<Answ
     let mut out = Vec::new(alloc);
     print_line(&mut out, &fault)?;
     let mut err = Vec::new(alloc);
-    push_fault(script, fault, &mut err)?;
+    push_script_fault(script, fault, &mut err)?;
     Ok(Answer::new(out, err, Vec::new(alloc), false))
-}
-
-/// Appends the message for the first fault of a script of `run`, or nothing if it has no fault. Fails if memory runs
-/// out, and may have appended a part of the message then.
-pub fn push_run_message(alloc: Global, script: &[u8], out: &mut Vec<u8>) -> Result<(), AllocError>
-    ensures ok { OnOk result (out.new.items ≡ out.old.items ++ run_message script.now) }
-    ensures begins { Begins out.new.items out.old.items }
-{
-    match read_run_script(alloc, script).err() {
-        None => Ok(()),
-        Some(ScriptError::NoMemory) => Err(AllocError),
-        Some(ScriptError::Fault(fault)) => push_fault(script, fault, out),
-    }
 }

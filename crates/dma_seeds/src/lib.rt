@@ -6,8 +6,8 @@
 //! `go` in place of the lines of the steps (`laws::races_are_runs`). `race_by_seed` returns that script of `run`, too,
 //! and `race_by_seeds` which outputs the seeds of a range give (`seeds_printed`). This is so for a script without its
 //! `expect` lines; whether these hold is a function of script and seed, too (`verdict`), and of script and range
-//! (`seeds_verdict`). The message for the first fault of a script is a function of the script (`race_message`,
-//! `run_message`).
+//! (`seeds_verdict`). The message for a fault is a function of the script and the fault (`fault_text`), that for the
+//! first fault of a race script of the script (`race_message`).
 //!
 //! Not proved: that no call is out of memory.
 #![tactic(auto)]

@@ -8,7 +8,7 @@ ghost use Rattle.dma_seeds.specs.inner.Counted.{counted};
 
 use dma_io::printing::print_line;
 use dma_mem::lists::Bytes;
-use dma_script::words::split_line;
+use dma_script::words::split_script_line;
 use dma_text::text::{Text, print};
 use std::alloc::AllocError;
 
@@ -63,7 +63,7 @@ fn print_indented(text: &[u8], out: &mut Vec<u8>) -> Result<(), AllocError>
 {
     let mut rest = text;
     while !rest.is_empty() {
-        let (line, after) = split_line(rest);
+        let (line, after) = split_script_line(rest);
         print_line(out, &("  ", line))?;
         rest = after;
     }

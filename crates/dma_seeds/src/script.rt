@@ -8,7 +8,7 @@ ghost use Rattle.dma_seeds.specs.Turns.{turns_of_seed};
 use crate::turns::Turns;
 use dma_io::printing::print_line;
 use dma_script::race::JobLine;
-use dma_script::words::{next_word, split_line};
+use dma_script::words::{next_word, split_script_line};
 use dma_text::bytes::is_text;
 use std::alloc::{AllocError, Global};
 
@@ -45,7 +45,7 @@ fn push_lines(script: &[u8], turns: &[u8], out: &mut Vec<u8>) -> Result<(), Allo
 {
     let mut rest = script;
     while !rest.is_empty() {
-        let (line, after) = split_line(rest);
+        let (line, after) = split_script_line(rest);
         push_line(line, turns, out)?;
         rest = after;
     }

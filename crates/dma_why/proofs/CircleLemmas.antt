@@ -112,7 +112,8 @@ module _ (waits : List Wait) where
 
   pub way_found : (low high from to n : ℕ) (w : Wait) (more : List Wait) → low + n ≡ high → Over low high from to w more → Finds (way waits from to low n)
   way_found low high from to zero w [] m o =
-      let f = find_in (λ w. w.ch == from && w.by.ch == to) waits w o.0 (and_from (w.ch == from) (w.by.ch == to) (eq-eqb w.ch from o.1) (eq-eqb w.by.ch to o.2)) in
+      let f = find_in (λ w. w.ch == from && w.by.ch == to) waits w o.0
+      (and_from (w.ch == from) (w.by.ch == to) (eq-eqb w.ch from o.1) (eq-eqb w.by.ch to o.2)) in
       (f.0 ∷ [], ap (option_map (λ w. w ∷ [])) f.1)
   way_found low high from to zero w (x ∷ more) m o = absurd (omega (arith, m, o.2, o.3))
   way_found low high from to (suc n) w more m o =

@@ -1,5 +1,5 @@
 //! The lines that say why each channel is where it is.
-#![tactic(auto, using(dma_text::proofs::Begun::begins_same, dma_text::proofs::Begun::begins_appended, dma_text::proofs::Begun::begins_more))]
+#![tactic(auto, using(dma_text::proofs::Begun::begun))]
 
 ghost use Rattle.std.specs.Prelude.{◌≡◌, ◌-◌, ◌++◌, OnOk};
 ghost use Rattle.dma_mem.specs.Places.{size_of};

@@ -7,5 +7,5 @@ returns c =
     let first = c.in_ok-run_measured.ensures in
     let went = c.in_ok-go.ensures in
     let at : c.len-early.result ≡ length c.run_measured.new.out.items = search rules in
-    raced_from _ _ _ c.args.script c.args.turns c.len-early.result _ _ _ _ _ _ _ _ first.left first.text at went.left went.text
-    c.in_ok-run_measured-2.ensures.text
+    rw at (raced_from _ _ _ c.args.script c.args.turns _ c.run_measured.new.out.items _ _ _ _ _ _ first.left first.text went.left went.text
+    c.in_ok-run_measured-2.ensures.text)
