@@ -17,6 +17,7 @@ pub mod ShapeLaws
 pub mod MemberActs
 pub mod LayerLaws
 pub mod CopyAlone
+pub mod CompiledAlone
 pub mod ReadyLaws
 pub mod BodyMoves
 pub mod ZeroBodies

@@ -6,7 +6,8 @@ use Rattle.std.proofs.lemmas.Bool.{cases_lt}
 use Rattle.dma_insn.specs.declared.chip.ChipInsn.{ChipInsn}
 use Rattle.dma_insn.specs.declared.chip.ChipInsn.TheVariants.{Ld, St, End, Sev, Wfe}
 use Rattle.dma_mem.specs.Places.{Descriptor, sources, destinations, lies_below}
-use Rattle.dma_mem.specs.{declared.marks.MarkKind.MarkKind, Marking.MarkList, Marking.meets_mark, Rules.IsTransfer}
+use Rattle.dma_mem.specs.{declared.marks.MarkKind.MarkKind, declared.marks.MarkKind.TheVariants.Reading, declared.marks.MarkKind.TheVariants.Writing}
+use Rattle.dma_mem.specs.{Marking.MarkList, Marking.meets_mark, Rules.IsTransfer}
 use Rattle.dma_chan.specs.Traffic.{burst, burst_by, member, read_places, stored_after, written_places}
 use Rattle.dma_chan.specs.{declared.bus.Bus.TheVariants.Ideal, declared.exec.Registers.Registers, declared.turn.ChanTurn.ChanTurn}
 use Rattle.dma_chan.specs.{declared.turn.ChanTurn.TheVariants.Moved, declared.turn.ChanTurn.TheVariants.Waiting, declared.turn.ChanTurn.TheVariants.Ended}
@@ -25,7 +26,7 @@ module _ (t : Descriptor) (h : IsTransfer t) where
   end_late : (n : ℕ) → member t n ≡ End → cost t ≤ n + 1
   end_late n is = grind (arith, cases_lt, shape_is)
 
-  late_ends : (n : ℕ) → cost t ≤ n + 1 → member t n ≡ End
+  pub late_ends : (n : ℕ) → cost t ≤ n + 1 → member t n ≡ End
   late_ends n late = grind (arith, cases_lt, shape_is, past_end)
 
   wait_there : (e : ℕ) → t.wait ≡ Some e → member t 0 ≡ Wfe e false
@@ -73,14 +74,14 @@ module _ (t : Descriptor) (n : ℕ) (image : List ℕ) (c : ChannelValue) (h : I
       ∙ burst_there St (destinations t) is
 
 -- the memory and the flags of a machine
-abbrev shared : Machine → Shared
+abbrev pub shared : Machine → Shared
 shared s = record { image = s.image; flags = s.flags }
 
 module _ (t : Descriptor) (marks : MarkList) (image : List ℕ) (flags : List Bool) (h : IsTransfer t) (below : lies_below t (length image) ≡ true) where
   abbrev there : ℕ → Machine
   there n = after_steps marks (just_loaded t image flags) n
 
-  agrees_at : (n : ℕ) → IsAt t n (there n).image (there n).channel → StepAgrees t n marks (shared (there n)) (there n).channel
+  pub agrees_at : (n : ℕ) → IsAt t n (there n).image (there n).channel → StepAgrees t n marks (shared (there n)) (there n).channel
   agrees_at n a = step_is t n marks (shared (there n)) (there n).channel h (ap (lies_below t) (steps_size marks (just_loaded t image flags) n) ∙ below) a
 
   moved_on : (n : ℕ) → IsAt t n (there n).image (there n).channel → answer_at marks (there n) ≡ Moved
@@ -89,14 +90,14 @@ module _ (t : Descriptor) (marks : MarkList) (image : List ℕ) (flags : List Bo
       let one = agrees_at n a in
       rw add-one at (subst (λ (i : List ℕ). IsAt t (n + 1) i (after_step marks (there n)).channel) (sym one.image) (one.goes_on (sym one.turn ∙ moves)))
 
-  comes_to : (n : ℕ) → MovesFor marks (just_loaded t image flags) n → IsAt t n (there n).image (there n).channel
+  pub comes_to : (n : ℕ) → MovesFor marks (just_loaded t image flags) n → IsAt t n (there n).image (there n).channel
   comes_to zero moves = starts_at t image h
   comes_to (suc n) moves = moved_on n (comes_to n (λ k l. moves k (omega arith))) (moves n (omega arith))
 
   reported : (n : ℕ) (u : ChanTurn) → IsAt t n (there n).image (there n).channel → answer_at marks (there n) ≡ u → AnswerImplies t n marks (shared (there n)) u
   reported n u a is = subst (AnswerImplies t n marks (shared (there n))) (sym (agrees_at n a).turn ∙ is) (turn_reports t n marks (shared (there n)))
 
-  last_ends : (n : ℕ) → IsAt t n (there n).image (there n).channel → n + 1 ≡ cost t → answer_at marks (there n) ≡ Ended
+  pub last_ends : (n : ℕ) → IsAt t n (there n).image (there n).channel → n + 1 ≡ cost t → answer_at marks (there n) ≡ Ended
   last_ends n a last =
       let c = (there n).channel in
       let s = state c.registers c.buffer (there n).image (there n).flags in
@@ -119,41 +120,44 @@ stays_in_step t n marks image flags h below moves =
       ends = (ended_last t marks image flags h below n a, last_ends t marks image flags h below n a);
     }
 
--- ---- without marks
+-- ---- without a mark at a burst
+
+module _ (t : Descriptor) (marks : MarkList) (image : List ℕ) (flags : List Bool) (h : IsTransfer t) (below : lies_below t (length image) ≡ true)
+    (set : IfSome t.wait (λ e. slice_index_or flags e false ≡ true)) (reads : (n : ℕ) → meets_mark Reading marks (read_places t n) ≡ false)
+    (writes : (n : ℕ) → meets_mark Writing marks (written_places t n) ≡ false) where
+  abbrev now : ℕ → Machine
+  now n = after_steps marks (just_loaded t image flags) n
+
+  set_at : (n e : ℕ) → n ≡ 0 → t.wait ≡ Some e → slice_index_or (now n).flags e false ≡ true
+  set_at n e first some = rw first (subst (λ (w : Option ℕ). IfSome w (λ d. slice_index_or flags d false ≡ true)) some set)
+
+  -- an answer before the last instruction
+  answers : (n : ℕ) (u : ChanTurn) → n + 1 < cost t → AnswerImplies t n marks (shared (now n)) u → u ≡ Moved
+  answers n Moved l r = refl
+  answers n (Waiting e) l r = grind (arith, shape_is)
+  answers n Ended l r = absurd (omega (arith, end_late t h n r, l))
+  answers n (Fault DataReadErr) l r = let both = sym (reads n) ∙ r.1 in absurd cc
+  answers n (Fault DataWriteErr) l r = let both = sym (writes n) ∙ r.1 in absurd cc
+  answers n (Fault kind) l r = absurd r
+
+  pub all_move : (n : ℕ) → n < cost t → MovesFor marks (just_loaded t image flags) n
+  all_move zero l = λ k f. absurd (omega (arith, f))
+  all_move (suc n) l = λ k f.
+      let before = all_move n (omega (arith, l)) in
+      let a = comes_to t marks image flags h below n before in
+      let here : answer_at marks (now n) ≡ Moved =
+      answers n (answer_at marks (now n)) (omega (arith, l)) (reported t marks image flags h below n (answer_at marks (now n)) a refl) in
+      elim (cases_lt k n) [
+        | inl less ↦ before k less
+        | inr same ↦ let at : n ≡ k = omega (arith, same, f) in subst (λ (j : ℕ). answer_at marks (now j) ≡ Moved) at here
+      ]
 
 none_marked : (kind : MarkKind) (places : List ℕ) → meets_mark kind [] places ≡ false
 unfolding meets_mark
 none_marked kind [] = refl
 none_marked kind (a ∷ places) = none_marked kind places
 
-module _ (t : Descriptor) (image : List ℕ) (flags : List Bool) (h : IsTransfer t) (below : lies_below t (length image) ≡ true)
-    (set : IfSome t.wait (λ e. slice_index_or flags e false ≡ true)) where
-  abbrev now : ℕ → Machine
-  now n = after_steps [] (just_loaded t image flags) n
-
-  set_at : (n e : ℕ) → n ≡ 0 → t.wait ≡ Some e → slice_index_or (now n).flags e false ≡ true
-  set_at n e first some = rw first (subst (λ (w : Option ℕ). IfSome w (λ d. slice_index_or flags d false ≡ true)) some set)
-
-  -- an answer before the last instruction
-  answers : (n : ℕ) (u : ChanTurn) → n + 1 < cost t → AnswerImplies t n [] (shared (now n)) u → u ≡ Moved
-  answers n Moved l r = refl
-  answers n (Waiting e) l r = grind (arith, shape_is)
-  answers n Ended l r = absurd (omega (arith, end_late t h n r, l))
-  answers n (Fault DataReadErr) l r = let both = sym (none_marked _ (read_places t n)) ∙ r.1 in absurd cc
-  answers n (Fault DataWriteErr) l r = let both = sym (none_marked _ (written_places t n)) ∙ r.1 in absurd cc
-  answers n (Fault kind) l r = absurd r
-
-  all_move : (n : ℕ) → n < cost t → MovesFor [] (just_loaded t image flags) n
-  all_move zero l = λ k f. absurd (omega (arith, f))
-  all_move (suc n) l = λ k f.
-      let before = all_move n (omega (arith, l)) in
-      let a = comes_to t [] image flags h below n before in
-      let here : answer_at [] (now n) ≡ Moved =
-      answers n (answer_at [] (now n)) (omega (arith, l)) (reported t [] image flags h below n (answer_at [] (now n)) a refl) in
-      elim (cases_lt k n) [
-        | inl less ↦ before k less
-        | inr same ↦ let at : n ≡ k = omega (arith, same, f) in subst (λ (j : ℕ). answer_at [] (now j) ≡ Moved) at here
-      ]
-
 pub gets_to_end : GetsToEnd
-gets_to_end t image flags h below set = all_move t image flags h below set (cost t - 1) (omega (arith, (shape_is t h).some))
+gets_to_end t image flags h below set =
+    all_move t [] image flags h below set (λ n. none_marked _ (read_places t n)) (λ n. none_marked _ (written_places t n)) (cost t - 1)
+    (omega (arith, (shape_is t h).some))

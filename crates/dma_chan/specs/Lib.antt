@@ -19,6 +19,7 @@ pub mod Traffic
 pub mod Layer
 pub mod Ready
 pub mod Fails
+pub mod Laws
 pub mod RunPages
 pub mod Others
 pub mod CallWrites

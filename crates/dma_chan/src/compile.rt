@@ -19,9 +19,9 @@ use crate::program::Program;
 use dma_insn::chip::{ChipInsn, encode_chip};
 use dma_insn::control::{Attribute, BeatSize, Beats, BurstEnd, Control};
 use dma_insn::insn::{Counter, Event, Reg, Times};
+pub use dma_mem::no_memory::NoMemory;
 use dma_mem::transfer::Transfer;
-use std::alloc::{AllocError, Global};
-use thiserror::Error;
+use std::alloc::Global;
 
 // The most bytes of a piece's code.
 const PIECE_BYTES: usize = 58;
@@ -34,18 +34,6 @@ const OTHER_BYTES: usize = 5;
 struct Beat {
     size: BeatSize,
     source_rises: bool,
-}
-
-/// The allocator is out of memory.
-#[derive(Clone, Copy, PartialEq, Eq, Debug, Error)]
-#[error("out of memory")]
-pub struct NoMemory;
-
-impl From<AllocError> for NoMemory {
-    // Converts the error of any allocation.
-    fn from(_error: AllocError) -> NoMemory {
-        NoMemory
-    }
 }
 
 /// Returns the program that copies a transfer's sources to its destinations on the engine's bus: what [`compile_on`]

@@ -264,7 +264,8 @@ pub fn go_on(registers: &mut Registers) -> ChanTurn
 pub(crate) struct Executor {
     pub(crate) registers: Registers,
     pub(crate) buffer: Fifo,
-    // A load joins bytes here that memory doesn't have in one piece. The contents have no meaning between loads.
+    // A load joins bytes here that memory doesn't have in one piece, and a store those that the buffer doesn't. The
+    // contents have no meaning between steps.
     pub(crate) block: Vec<u8>,
 }
 

@@ -1,48 +1,28 @@
 //! The buffer of a channel.
 
-ghost use Rattle.std.specs.Prelude.{◌≡◌, ◌+◌, ◌-◌, ◌*◌, ◌≤◌, ◌==◌, ◌++◌, [], min, length, take, drop, vec_capacity, IfOk};
+ghost use Rattle.std.specs.Prelude.{◌≡◌, ◌+◌, ◌-◌, ◌≤◌, ◌==◌, ◌++◌, [], min, length, take, drop, IfOk, IfSome};
 ghost use Rattle.dma_chan.specs.Exec.{buffer_size};
 
 use crate::bursts::BUFFER_SIZE;
+use circular_buffer::HeapCircularBuffer;
 use std::alloc::{AllocError, Global};
 use std::marker::Model;
 
-// How many bytes of memory a buffer has. Its bytes are moved to the front at most once for each 256 bytes added.
-const MEMORY_SIZE: usize = 2 * BUFFER_SIZE;
-
-/// At most 256 bytes, first in, first out. They lie in one piece, so that a burst is one copy.
+/// At most 256 bytes, first in, first out, in a ring.
 #[derive(Drop)]
 pub(crate) struct Fifo {
-    bytes: Vec<u8>,
-    // how many of the bytes were taken out
-    taken: usize,
+    ring: HeapCircularBuffer<u8>,
 }
 
 impl Model for Fifo {
-    ghost use Rattle.std.specs.Prelude.{List, ℕ, ◌+◌, ◌*◌, ◌≤◌, drop, length, vec_capacity};
+    ghost use Rattle.std.specs.Prelude.{◌≡◌, List, ℕ};
     ghost use Rattle.dma_chan.specs.Exec.{buffer_size};
 
     ghost Value = { List ℕ };
 
-    ghost view = { λ f. drop f.taken f.bytes.items };
+    ghost view = { λ f. f.ring.items };
 
-    ghost invariant = { λ f. (f.taken ≤ length f.bytes.items)
-        × (length f.bytes.items ≤ f.taken + buffer_size)
-        × (2 * buffer_size ≤ vec_capacity f.bytes) };
-}
-
-// Removes the first `count` bytes of a list, which are at least half of them, so that the others are one copy.
-#[inline(never)]
-fn remove_front(bytes: &mut Vec<u8>, count: usize)
-    requires some { count ≤ length bytes.old.items }
-    requires half { length bytes.old.items ≤ 2 * count }
-    ensures bytes { bytes.new.items ≡ drop count bytes.old.items }
-    ensures capacity { vec_capacity bytes.old ≤ vec_capacity bytes.new }
-{
-    let (front, back) = bytes.split_at_mut(count);
-    let left = back.len();
-    front[..left].copy_from_slice(back);
-    bytes.truncate(left);
+    ghost invariant = { λ f. f.ring.capacity ≡ buffer_size };
 }
 
 impl Fifo {
@@ -51,8 +31,7 @@ impl Fifo {
         ensures { IfOk result (λ buffer. buffer ≡ []) }
     {
         Ok(Fifo {
-            bytes: Vec::with_capacity(alloc, MEMORY_SIZE)?,
-            taken: 0,
+            ring: HeapCircularBuffer::with_capacity(alloc, BUFFER_SIZE)?,
         })
     }
 
@@ -62,7 +41,7 @@ impl Fifo {
         ensures len { result ≡ length self.now }
         ensures within { result ≤ buffer_size }
     {
-        self.bytes.len() - self.taken
+        self.ring.len()
     }
 
     /// Returns whether the buffer has no bytes.
@@ -70,15 +49,32 @@ impl Fifo {
     pub(crate) fn is_empty(&self) -> bool
         ensures { result ≡ (length self.now == 0) }
     {
-        self.len() == 0
+        self.ring.is_empty()
     }
 
-    /// Returns the bytes, the oldest first.
+    /// Returns the first `count` bytes if they lie in one piece.
     #[inline(always)]
-    pub(crate) fn as_slice(&self) -> &[u8]
-        ensures { result.now ≡ self.now }
+    pub(crate) fn front(&self, count: usize) -> Option<&[u8]>
+        requires { count ≤ length self.now }
+        ensures { IfSome result (λ bytes. bytes.now ≡ take count self.now) }
     {
-        &self.bytes[self.taken..]
+        let (front, _) = self.ring.as_slices();
+        if count <= front.len() {
+            Some(&front[..count])
+        } else {
+            None
+        }
+    }
+
+    /// Copies the bytes to `out`, which has as many.
+    pub(crate) fn copy_to(&self, out: &mut [u8])
+        requires { length out.old ≡ length self.now }
+        ensures { out.new ≡ self.now }
+    {
+        let (front, back) = self.ring.as_slices();
+        let (of_front, of_back) = out.split_at_mut(front.len());
+        of_front.copy_from_slice(front);
+        of_back.copy_from_slice(back);
     }
 
     /// Removes all bytes.
@@ -86,8 +82,7 @@ impl Fifo {
     pub(crate) fn clear(&mut self)
         ensures { self.new ≡ [] }
     {
-        self.bytes.clear();
-        self.taken = 0;
+        self.ring.clear();
     }
 
     /// Removes the first `count` bytes.
@@ -96,9 +91,25 @@ impl Fifo {
         requires { count ≤ length self.old }
         ensures { self.new ≡ drop count self.old }
     {
-        self.taken += count;
-        if self.taken == self.bytes.len() {
-            self.clear();
+        self.ring.truncate_front(self.ring.len() - count);
+    }
+
+    /// Moves the first bytes to `block`, as many as it has. If none is left, the next one goes to the start of the
+    /// ring's memory, so that bursts lie in one piece again.
+    #[inline(never)]
+    pub(crate) fn read_into(&mut self, block: &mut [u8])
+        requires { length block.old ≤ length self.old }
+        ensures read { block.new ≡ take (length block.old) self.old }
+        ensures bytes { self.new ≡ drop (length block.old) self.old }
+    {
+        let (_, back) = self.ring.as_slices();
+        let past_end = back.len();
+        self.ring.read_into(block);
+        if self.is_empty() {
+            let skipped = [0; BUFFER_SIZE];
+            self.ring
+                .fill_from_slice(&skipped[past_end.min(BUFFER_SIZE)..]);
+            self.ring.truncate_front(0);
         }
     }
 
@@ -108,14 +119,6 @@ impl Fifo {
         ensures count { result ≡ min (length other.now) (buffer_size - length self.old) }
         ensures bytes { self.new ≡ self.old ++ take result other.now }
     {
-        let count = other.len().min(BUFFER_SIZE - self.len());
-        if self.bytes.len() + count > MEMORY_SIZE {
-            remove_front(&mut self.bytes, self.taken);
-            self.taken = 0;
-        }
-        let Ok(()) = self.bytes.extend_from_slice(&other[..count]) else {
-            unreachable!()
-        };
-        count
+        self.ring.fill_from_slice(other)
     }
 }

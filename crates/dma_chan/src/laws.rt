@@ -2,6 +2,7 @@
 
 ghost use Rattle.dma_chan.specs.Layer.{StartsAt, AheadIs, LeftIs, StepIs, TurnReports, Survives, CostIs, CostOnBus, WordsAccepted};
 ghost use Rattle.dma_chan.specs.CallWrites.{CallWritesNoOther};
+ghost use Rattle.dma_chan.specs.Laws.{CompiledCopiesAlone};
 ghost use Rattle.dma_chan.specs.Aligned.{AddressesAlign};
 ghost use Rattle.dma_chan.specs.Others.{WritesNoOther};
 ghost use Rattle.dma_chan.specs.Pace.{OrderIs, StoredIs, StaysInStep, GetsToEnd};
@@ -41,6 +42,15 @@ pub fn pace()
 pub fn costs_little()
     ensures ideal { CostIs }
     ensures on_bus { CostOnBus }
+{}
+
+/// A transfer that doesn't wait is copied by its compiled program. By the clauses of
+/// [`run_program`](crate::run::run_program), a run of the program alone, over a memory that has the transfer's ranges
+/// and with a limit of at least its cost, ends with exactly as many instructions as the cost, and memory is then the
+/// result of one simultaneous copy of all bytes. Only memory can be refused: for a page that a store writes, or before
+/// anything has run.
+pub fn compiled_copies_alone()
+    ensures { CompiledCopiesAlone }
 {}
 
 /// The bus for which a transfer's program was compiled accepts each control word that the program sets.

@@ -3,12 +3,13 @@
 ghost use Rattle.std.specs.Prelude.{◌≡◌, ◌≤◌, ◌<◌, length, IfOk};
 ghost use Rattle.dma_insn.specs.AssemblyText.{most_program_bytes};
 ghost use Rattle.dma_insn.specs.Chip.{IsSpelledAt, spelling};
-ghost use Rattle.dma_chan.specs.Next.{decoded_on, fetch_fault, next_of, next_on};
+ghost use Rattle.dma_chan.specs.Next.{core_next, decoded_on, fetch_fault, next_of, next_on};
 
 use crate::bus::Bus;
 use crate::turn::FaultKind;
 use dma_insn::chip::{ChipInsn, decode_chip, decode_core};
-use dma_insn::codec::DecodeFault;
+use dma_insn::codec::{DecodeFault, decode};
+use dma_insn::insn::Insn;
 use std::marker::Model;
 
 /// An instruction and the length of its encoding in bytes. Contracts see the instruction.
@@ -56,6 +57,17 @@ fn decode_on(bus: Bus, bytes: &[u8]) -> Result<(ChipInsn, usize), DecodeFault>
     match bus {
         Bus::Ideal => decode_core(bytes),
         Bus::Chip(_) => decode_chip(bytes),
+    }
+}
+
+// Returns the instruction of the model at an offset of a program, or the fault of fetching it.
+pub(crate) fn insn_at(program: &[u8], pc: u32) -> Result<Insn, FaultKind>
+    requires { pc ≤ length program.now }
+    ensures { result ≡ core_next program.now pc }
+{
+    match decode(&program[pc as usize..]) {
+        Ok((insn, _)) => Ok(insn),
+        Err(fault) => Err(fetch_fault(fault)),
     }
 }
 

@@ -11,7 +11,8 @@ ghost use Rattle.std.specs.List.{list_any};
 use crate::config::{BusWidth, Config, NewFault};
 use crate::device::registers::any_faulting;
 use crate::thread::Thread;
-use std::alloc::{AllocError, Global};
+use dma_mem::no_memory::NoMemory;
+use std::alloc::Global;
 use std::marker::Model;
 
 mod debug;
@@ -58,7 +59,7 @@ impl Model for Device {
 }
 
 // Returns threads on this bus in their state after a reset.
-fn new_threads(alloc: Global, bus: BusWidth, count: u8) -> Result<Vec<Thread>, AllocError>
+fn new_threads(alloc: Global, bus: BusWidth, count: u8) -> Result<Vec<Thread>, NoMemory>
     ensures { IfOk result (λ threads. threads.items ≡ replicate count (reset_thread bus)) }
 {
     let mut threads = Vec::new(alloc);
@@ -111,7 +112,7 @@ impl Device {
     }
 
     // Returns a device in its state after a reset.
-    fn after_reset(alloc: Global, config: Config) -> Result<Device, AllocError>
+    fn after_reset(alloc: Global, config: Config) -> Result<Device, NoMemory>
         requires { is_valid config ≡ true }
         ensures { IfOk result (λ device. device ≡ reset_device config) }
     {

@@ -12,8 +12,9 @@ use dma_chan::channel::Channel;
 use dma_chan::turn::ChanTurn;
 use dma_insn::chip::ChipInsn;
 use dma_insn::insn::Event;
+use dma_mem::no_memory::NoMemory;
 use dma_mem::regions::Region;
-use std::alloc::{AllocError, Global};
+use std::alloc::Global;
 
 /// Faults that the device itself finds, by their bits in FTRD and FTR (DMA-330 manual, fault type registers). For those
 /// that a step returns see `FaultKind::bit`.
@@ -105,7 +106,7 @@ impl Status {
 
 impl Thread {
     /// Returns a thread on this bus in its state after a reset.
-    pub fn new(alloc: Global, bus: BusWidth) -> Result<Thread, AllocError>
+    pub fn new(alloc: Global, bus: BusWidth) -> Result<Thread, NoMemory>
         ensures { IfOk result (λ thread. thread ≡ reset_thread bus) }
     {
         let mut channel = Channel::new(alloc)?;
@@ -175,7 +176,7 @@ impl Thread {
         requires { IsSome self.now.channel.program }
         ensures { result ≡ is_before_wait event self.now }
     {
-        match self.channel.ahead() {
+        match self.channel.ahead_on_bus() {
             Ok(next) => {
                 waits_for(next, event)
                     && self.channel.taken() < u32::MAX

@@ -1,12 +1,13 @@
--- The instructions of a chip's channels: those of the model, and the bytes of four more (PL330 manual, instruction
--- chapter).
-use Rattle.std.specs.Prelude.{ℕ, ◌+◌, ◌-◌, ◌*◌, ◌^◌, ◌<◌, ◌≤◌, ◌==◌, Bool, true, false, List, [], ◌∷◌, length, drop, slice_index, nat_lt}
-use Rattle.std.specs.Prelude.{if◌then◌else◌, Result, Ok, Err}
+-- The instructions of a chip's channels: those of the model, whose bytes are the model's, and four more (PL330 manual,
+-- instruction chapter).
+use Rattle.std.specs.Prelude.{ℕ, ◌^◌, ◌<◌, ◌==◌, Bool, true, false, List, [], ◌∷◌, length, drop, slice_index, nat_lt}
+use Rattle.std.specs.Prelude.{if◌then◌else◌, Option, Some, None, IsSome, IsSomeAnd, IfSome, Result, Ok, Err}
+use Rattle.std.specs.Option.{option_map_or}
 use Rattle.byteorder.specs.Endian.{little_bytes, little_number}
 use Rattle.dma_insn.specs.declared.chip.ChipInsn.TheVariants.{Mov, Ld, St, Rmb, Wmb, Nop, End, Lp, LpEnd, Sev, Wfe, StoreZeros, AddHalfword, LoopAgain}
 use Rattle.dma_insn.specs.declared.codec.DecodeFault.TheVariants.{Cut, Unknown}
 use Rattle.dma_insn.specs.Grammar.{Spelled, Refused, or_more}
-use Rattle.dma_insn.specs.Spelling.{register_byte, loop_byte, loop_end_byte, invalid_bits}
+use Rattle.dma_insn.specs.Spelling.{spelling as core_spelling, HasRanges as CoreRanges}
 use Rattle.dma_insn.specs.{declared.chip.ChipInsn.ChipInsn, declared.chip.Address.Address, declared.chip.Address.TheVariants.Source}
 use Rattle.dma_insn.specs.{declared.chip.Address.TheVariants.Destination, declared.insn.Insn.Insn, declared.insn.Counter.Counter}
 use Rattle.dma_insn.specs.{declared.insn.Counter.TheVariants.Lc0, declared.insn.Counter.TheVariants.Lc1, declared.codec.DecodeFault.DecodeFault}
@@ -39,49 +40,44 @@ abbrev pub again_byte : Counter → ℕ
 again_byte Lc0 = 0x28
 again_byte Lc1 = 0x2c
 
--- The bytes of an instruction of a chip: those of the model have the same bytes. DMASTZ has one byte. DMAADDH and
--- DMAADNH have the number in two bytes after the first, the lower first. The DMALPEND of a loop that DMALPFE begins has
--- the jump back in its second byte.
+-- the instruction of the model that an instruction of a chip is; `None` for those that only a chip has
+abbrev pub core_of : ChipInsn → Option Insn
+core_of End = Some CoreEnd
+core_of Ld = Some CoreLd
+core_of St = Some CoreSt
+core_of Rmb = Some CoreRmb
+core_of Wmb = Some CoreWmb
+core_of Nop = Some CoreNop
+core_of (Lp c n) = Some (CoreLp c n)
+core_of (LpEnd c b) = Some (CoreLpEnd c b)
+core_of (Sev e) = Some (CoreSev e)
+core_of (Wfe e v) = Some (CoreWfe e v)
+core_of (Mov r v) = Some (CoreMov r v)
+core_of _ = None
+
+-- The bytes of an instruction of a chip. DMASTZ has one byte. DMAADDH and DMAADNH have the number in two bytes after the
+-- first, the lower first. The DMALPEND of a loop that DMALPFE begins has the jump back in its second byte. The others
+-- have their bytes in the model.
 abbrev pub spelling : ChipInsn → List ℕ
-spelling End = 0x00 ∷ []
-spelling Ld = 0x04 ∷ []
-spelling St = 0x08 ∷ []
-spelling Rmb = 0x12 ∷ []
-spelling Wmb = 0x13 ∷ []
-spelling Nop = 0x18 ∷ []
-spelling (Lp c n) = loop_byte c ∷ (n - 1) ∷ []
-spelling (LpEnd c b) = loop_end_byte c ∷ b ∷ []
-spelling (Sev e) = 0x34 ∷ (e * 8) ∷ []
-spelling (Wfe e v) = 0x36 ∷ (e * 8 + invalid_bits v) ∷ []
-spelling (Mov r v) = 0xbc ∷ register_byte r ∷ little_bytes 4 v
 spelling StoreZeros = 0x0c ∷ []
 spelling (AddHalfword a h n) = add_byte a n ∷ little_bytes 2 h
 spelling (LoopAgain c b) = again_byte c ∷ b ∷ []
+spelling i = option_map_or core_spelling (core_of i) []
 
--- The ranges of the fields. The type `ChipInsn` guarantees them.
+-- The ranges of the fields: those of the model, and those of a chip's own. The type `ChipInsn` guarantees them.
 abbrev pub HasRanges : ChipInsn → Type 0
-HasRanges (Lp c n) = (1 ≤ n) × (n ≤ 256)
-HasRanges (LpEnd c b) = b < 256
-HasRanges (Sev e) = e < 32
-HasRanges (Wfe e v) = e < 32
-HasRanges (Mov r v) = v < 2 ^ 32
+HasRanges StoreZeros = Unit {0}
 HasRanges (AddHalfword a h n) = h < 2 ^ 16
 HasRanges (LoopAgain c b) = b < 256
-HasRanges _ = Unit {0}
+HasRanges i = IfSome (core_of i) CoreRanges
 
 -- an instruction is one of the model's
 abbrev pub IsCore : ChipInsn → Type 0
-IsCore StoreZeros = ⊥
-IsCore (AddHalfword a h n) = ⊥
-IsCore (LoopAgain c b) = ⊥
-IsCore i = Unit {0}
+IsCore i = IsSome (core_of i)
 
 -- An instruction is one of the model's, with its ranges.
 abbrev pub HasCoreRanges : ChipInsn → Type 0
-HasCoreRanges StoreZeros = ⊥
-HasCoreRanges (AddHalfword a h n) = ⊥
-HasCoreRanges (LoopAgain c b) = ⊥
-HasCoreRanges i = HasRanges i
+HasCoreRanges i = IsSomeAnd (core_of i) CoreRanges
 
 -- The first n bytes are the encoding of the instruction i, which is in range.
 abbrev pub IsSpelledAt : List ℕ → ChipInsn → ℕ → Type 0

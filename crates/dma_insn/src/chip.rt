@@ -1,11 +1,11 @@
 //! The instructions of a chip's channels for copies between memories: those of the model, and four that a chip has
 //! besides.
 
-ghost use Rattle.std.specs.Prelude.{◌≡◌, ℕ, ◌<◌, ◌≤◌, ◌++◌, length, drop, IfOk, IfErr, Ok};
+ghost use Rattle.std.specs.Prelude.{◌≡◌, ℕ, ◌<◌, ◌≤◌, ◌++◌, length, drop, IfOk, IfErr, Ok, Some};
 ghost use Rattle.dma_insn.specs.declared.insn.Insn.{Insn};
 ghost use Rattle.dma_insn.specs.declared.chip.ChipInsn.{ChipInsn};
 ghost use Rattle.dma_insn.specs.Spelling.{IsSpelledAt as IsCoreAt};
-ghost use Rattle.dma_insn.specs.Chip.{widened, spelling, HasRanges, IsSpelledAt, IsRefusedFor, decoded, decoded_core, added_by, again_by, beyond_core};
+ghost use Rattle.dma_insn.specs.Chip.{widened, core_of, spelling, HasRanges, IsSpelledAt, IsRefusedFor, decoded, decoded_core, added_by, again_by, beyond_core};
 
 use crate::codec::{DecodeFault, decode, encode, write_one, write_two};
 use crate::insn::{Counter, Event, Insn, Reg, Times};
@@ -71,7 +71,8 @@ impl ChipInsn {
     /// Returns an instruction of the model as one of a chip.
     #[inline(always)]
     pub fn of(insn: Insn) -> ChipInsn
-        ensures { result ≡ widened insn }
+        ensures value { result ≡ widened insn }
+        ensures core { core_of result ≡ Some insn }
     {
         match insn {
             Insn::Mov(reg, value) => ChipInsn::Mov(reg, value),

@@ -10,8 +10,8 @@
 //! `Marks::hits` and `unmarked` are exact. The trait [`ram::Ram`] is the same contract for any memory: [`ram::LentRam`]
 //! is a slice of the caller's, [`regions::LentRegions`] slices with gaps between them, of which some may be read-only.
 //!
-//! Not proved: that an allocation succeeds. A call that allocates may always fail with `NoMemory` or `AllocError`;
-//! tests run each with ample memory.
+//! Not proved: that an allocation succeeds. A call that allocates may always fail with `NoMemory`, or that of a list
+//! with `AllocError`; tests run each with ample memory.
 #![tactic(auto)]
 
 pub mod call;
@@ -20,6 +20,7 @@ pub mod limits;
 pub mod lists;
 pub mod marks;
 pub mod memory;
+pub mod no_memory;
 pub mod ordered;
 mod page_flags;
 pub mod ram;

@@ -6,9 +6,10 @@ ghost use Rattle.dma_mem.specs.Meeting.{hits};
 ghost use Rattle.dma_mem.specs.Marking.{NoneMarked, is_marked};
 ghost use Rattle.dma_mem.specs.inner.MarkRanges.{AreRangesOf};
 
+use crate::no_memory::NoMemory;
 use crate::ordered::{add_in_order, clear_of_ordered, meets_ordered};
 use crate::segment::Segment;
-use std::alloc::{AllocError, Global};
+use std::alloc::Global;
 use std::marker::Model;
 
 /// Whether loads or stores fail at a mark.
@@ -54,8 +55,8 @@ impl Marks {
         }
     }
 
-    /// Adds a mark. If memory runs out, it fails and the marks are unchanged.
-    pub fn add(&mut self, kind: MarkKind, segment: Segment) -> Result<(), AllocError>
+    /// Adds a mark. If memory runs out, it fails with `NoMemory` and the marks are unchanged.
+    pub fn add(&mut self, kind: MarkKind, segment: Segment) -> Result<(), NoMemory>
         ensures ok { OnOk result (self.new ≡ self.old ++ (kind, segment) ∷ []) }
         ensures err { OnErr result (self.new ≡ self.old) }
     {
@@ -68,8 +69,8 @@ impl Marks {
         Ok(())
     }
 
-    /// Returns a copy of the marks. Fails with `AllocError` if memory runs out.
-    pub fn try_copy(&self) -> Result<Marks, AllocError>
+    /// Returns a copy of the marks. Fails with `NoMemory` if memory runs out.
+    pub fn try_copy(&self) -> Result<Marks, NoMemory>
         ensures { IfOk result (λ copy. copy ≡ self.now) }
     {
         let alloc = *self.list.allocator();

@@ -10,6 +10,7 @@ ghost use Rattle.dma_mem.specs.Image.{put, bytes_at, is_size};
 ghost use Rattle.dma_mem.specs.Pages.{has_page, is_made, page_size, range_fault, AllMade, Keeps, MakesNoOther};
 
 use crate::limits::MAX_SIZE;
+use crate::no_memory::NoMemory;
 use crate::page_flags::PageFlags;
 use crate::segment::Segment;
 use crate::table::Table;
@@ -123,8 +124,8 @@ impl Memory {
         Ok(())
     }
 
-    /// Returns a copy of the `len` bytes from `addr` on. Fails with `AllocError` if memory runs out.
-    pub fn to_vec(&self, alloc: Global, addr: u32, len: u32) -> Result<Vec<u8>, AllocError>
+    /// Returns a copy of the `len` bytes from `addr` on. Fails with `NoMemory` if memory runs out.
+    pub fn to_vec(&self, alloc: Global, addr: u32, len: u32) -> Result<Vec<u8>, NoMemory>
         requires { addr + len ≤ length self.now.image }
         ensures { IfOk result (λ list. list.items ≡ take len (drop addr self.now.image)) }
     {
@@ -310,8 +311,8 @@ impl Memory {
         Ok(())
     }
 
-    /// Returns a copy of the memory. Fails with `AllocError` if memory runs out.
-    pub fn try_copy(&self) -> Result<Memory, AllocError>
+    /// Returns a copy of the memory. Fails with `NoMemory` if memory runs out.
+    pub fn try_copy(&self) -> Result<Memory, NoMemory>
         ensures { IfOk result (λ copy. copy ≡ self.now) }
     {
         let table = self.table.try_copy()?;

@@ -7,9 +7,10 @@ ghost use Rattle.dma_mem.specs.Places.{places, range_of, share};
 ghost use Rattle.dma_mem.specs.Ranges.{IsCoalesced, SameAddresses};
 ghost use Rattle.dma_mem.specs.inner.RangesInOrder.{Joins};
 
+use crate::no_memory::NoMemory;
 use crate::ordered::{any_meets_ordered, meets_ordered, sort_by_address};
 use crate::segment::Segment;
-use std::alloc::{AllocError, Global};
+use std::alloc::Global;
 use std::marker::Model;
 
 /// A set of addresses, each at most 4,294,967,294. Contracts see it as ranges in rising order, of which no two meet or
@@ -61,9 +62,9 @@ fn coalesce(segments: &mut Vec<Segment>)
 
 impl RangeSet {
     /// Returns the set of the segments' addresses. The segments may be in any order and may meet; each has at least one
-    /// byte and ends at or below 4,294,967,295. Fails with `AllocError` if there is no memory for a copy of the list;
+    /// byte and ends at or below 4,294,967,295. Fails with `NoMemory` if there is no memory for a copy of the list;
     /// with one segment it never fails.
-    pub fn new(alloc: Global, segments: &[Segment]) -> Result<RangeSet, AllocError>
+    pub fn new(alloc: Global, segments: &[Segment]) -> Result<RangeSet, NoMemory>
         requires filled { All (λ s. 0 < s.len) segments.now }
         requires within { All (λ s. s.addr + s.len ≤ u32.MAX) segments.now }
         ensures same { IfOk result (λ set. SameAddresses set segments.now) }
@@ -79,9 +80,9 @@ impl RangeSet {
     }
 
     /// Makes the set that of the segments' addresses, like [`RangeSet::new`], in the memory that it has if that is
-    /// enough. If there is no memory for a copy of the list, it fails with `AllocError` and the set is empty; with one
+    /// enough. If there is no memory for a copy of the list, it fails with `NoMemory` and the set is empty; with one
     /// segment it never fails.
-    pub fn set(&mut self, segments: &[Segment]) -> Result<(), AllocError>
+    pub fn set(&mut self, segments: &[Segment]) -> Result<(), NoMemory>
         requires filled { All (λ s. 0 < s.len) segments.now }
         requires within { All (λ s. s.addr + s.len ≤ u32.MAX) segments.now }
         ensures same { OnOk result (SameAddresses self.new segments.now) }

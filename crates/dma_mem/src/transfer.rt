@@ -13,6 +13,7 @@ pub(crate) mod rules;
 
 use crate::limits::{LAST_EVENT, MAX_SEGMENTS, MAX_TRANSFER_BYTES};
 use crate::lists::Segments;
+use crate::no_memory::NoMemory;
 use crate::segment::Segment;
 use crate::transfer::rules::{Totals, checked_fill, checked_len, meets_any, meets_one};
 use std::alloc::{AllocError, Global};
@@ -356,8 +357,8 @@ impl Transfer {
             && !meets_any(self.src(), other.dst())
     }
 
-    /// Returns a copy of the transfer. Fails with `AllocError` if memory runs out.
-    pub fn try_copy(&self) -> Result<Transfer, AllocError>
+    /// Returns a copy of the transfer. Fails with `NoMemory` if memory runs out.
+    pub fn try_copy(&self) -> Result<Transfer, NoMemory>
         ensures { IfOk result (λ copy. copy ≡ self.now) }
     {
         Ok(Transfer {

@@ -18,14 +18,16 @@ use crate::turn::{ChanTurn, FaultKind};
 use dma_mem::marks::{MarkKind, Marks};
 use dma_mem::ram::Ram;
 
-// Stores the oldest bytes of the buffer as a burst. Bytes that a later beat would overwrite are not written.
+// Stores the oldest bytes of the buffer as a burst. Bytes that a later beat would overwrite are not written. Bytes in
+// two pieces are written through the block.
 #[inline(always)]
-fn store_span<M: Ram>(burst: Burst, buffer: &mut Fifo, memory: &mut M)
+fn store_span<M: Ram>(burst: Burst, buffer: &mut Fifo, block: &mut [u8], memory: &mut M)
     requires some { IsBurst burst }
     requires bytes { burst_len burst ≤ length buffer.old }
     requires within { burst.addr + span_of burst ≤ length (M.paged memory.old).image }
     requires clear { Avoids (M.loan memory.old).gaps burst.addr (span_of burst) }
     requires ready { IsTrue (none_missing (M.paged memory.old) (touched burst)) }
+    requires block { length block.old ≡ buffer_size }
     ensures written { (M.paged memory.new).image ≡ put (M.paged memory.old).image
         (writes_of burst (take (burst_len burst) buffer.old)) }
     ensures pages { (M.paged memory.new).made ≡ (M.paged memory.old).made }
@@ -34,9 +36,14 @@ fn store_span<M: Ram>(burst: Burst, buffer: &mut Fifo, memory: &mut M)
 {
     let len = burst.len() as usize;
     let overwritten = len - burst.span().len as usize;
-    let bytes = &buffer.as_slice()[..len];
-    memory.put(burst.addr, &bytes[overwritten..]);
-    buffer.drop_front(len);
+    if let Some(bytes) = buffer.front(len) {
+        memory.put(burst.addr, &bytes[overwritten..]);
+        buffer.drop_front(len);
+    } else {
+        let bytes = &mut block[..len];
+        buffer.read_into(bytes);
+        memory.put(burst.addr, &bytes[overwritten..]);
+    }
 }
 
 // Returns the fault of DMAST, whose burst is `burst`. If it is `None`, the buffer has the bytes of the burst, and the
@@ -77,6 +84,7 @@ pub(crate) fn store_burst<M: Ram>(
     memory: &mut M,
     marks: &Marks,
 ) -> (ChanTurn, u32)
+    requires block { length executor.old.block.items ≡ buffer_size }
     requires pc { executor.old.registers.pc < most_program_bytes }
     requires ready { IsTrue
         (none_missing (M.paged memory.old) (touched (destination_of executor.old.registers))) }
@@ -86,7 +94,7 @@ pub(crate) fn store_burst<M: Ram>(
         → result.1 ≡ burst_len (destination_of executor.old.registers) }
     ensures limit { result.1 ≤ buffer_size }
     ensures pages { (M.paged memory.new).made ≡ (M.paged memory.old).made }
-    ensures block { executor.new.block.items ≡ executor.old.block.items }
+    ensures block { length executor.new.block.items ≡ buffer_size }
     ensures pc { executor.new.registers.pc ≤ executor.old.registers.pc + 1 }
     ensures loan { M.loan memory.new ≡ M.loan memory.old }
 {
@@ -94,7 +102,7 @@ pub(crate) fn store_burst<M: Ram>(
     if let Some(kind) = store_fault(executor, burst, memory, marks) {
         return (ChanTurn::Fault(kind), 0);
     }
-    store_span(burst, &mut executor.buffer, memory);
+    store_span(burst, &mut executor.buffer, &mut executor.block, memory);
     executor.registers.pc += 1;
     executor.registers.dar = executor.registers.dar.wrapping_add(burst.advance());
     (ChanTurn::Moved, burst.len())

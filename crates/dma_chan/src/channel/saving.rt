@@ -5,6 +5,7 @@ ghost use Rattle.dma_chan.specs.Channel.{ChannelValue, on_bus};
 ghost use Rattle.dma_chan.specs.Exec.{buffer_size};
 ghost use Rattle.dma_chan.specs.Saved.{head_of, most_saved, saved, IsChannelValue};
 
+use crate::bursts::BUFFER_SIZE;
 use crate::bus::Bus;
 use crate::channel::Channel;
 use crate::save::head::Head;
@@ -89,7 +90,9 @@ impl Channel {
         ensures channel { IsChannelValue self.now }
     {
         let head = self.head();
-        let buffer = self.executor.buffer.as_slice();
-        write(&head, buffer, self.program.bytes())
+        let mut block = [0; BUFFER_SIZE];
+        let bytes = &mut block[..self.executor.buffer.len()];
+        self.executor.buffer.copy_to(bytes);
+        write(&head, bytes, self.program.bytes())
     }
 }

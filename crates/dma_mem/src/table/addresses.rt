@@ -4,6 +4,7 @@
 ghost use Rattle.std.specs.Prelude.{◌≡◌, ℕ, ◌+◌, ◌*◌, ◌%◌, ◌<◌, ◌≤◌, ◌^◌, length, true, false, IfOk, IfSome, IsSome, OnOk, OnErr};
 ghost use Rattle.dma_mem.specs.inner.ChunkTable.{chunk_size, chunk_at, AreBytesFrom, PutsBytes, RangeMade, RangeMissing, SameBytes, SameLengths};
 
+use crate::no_memory::NoMemory;
 use crate::table::blocks::in_one_chunk;
 use crate::table::{CHUNK_SIZE, Table, shown};
 use std::alloc::{AllocError, Global};
@@ -47,7 +48,7 @@ impl Table {
         alloc: Global,
         start: usize,
         len: usize,
-    ) -> Result<Vec<u8>, AllocError>
+    ) -> Result<Vec<u8>, NoMemory>
         requires { start + len < 2 ^ 33 }
         ensures { IfOk result
             (λ list. (length list.items ≡ len) × AreBytesFrom self.now start list.items) }

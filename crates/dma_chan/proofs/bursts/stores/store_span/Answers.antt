@@ -7,3 +7,6 @@ overflow_sub-overwritten g c = grind (arith, span_within)
 
 pub put-requires-clause-made : goal.put-requires-clause-made
 put-requires-clause-made g c = grind (arith, span_made, span_within, length-take, length-drop)
+
+pub put-requires-in_default-clause-made : goal.put-requires-in_default-clause-made
+put-requires-in_default-clause-made g c = grind (arith, span_made, span_within, length-take, length-drop)
