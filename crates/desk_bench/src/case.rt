@@ -23,8 +23,6 @@ pub struct Case {
     pub len: u32,
     /// The number of turns that a copy takes, from its start to its end.
     pub turns: u32,
-    /// The most turns that a worker takes in a row, or that the engine takes in one call.
-    pub row: u32,
 }
 
 impl Case {
@@ -37,7 +35,6 @@ impl Case {
             copies: words.get(4)?.parse().ok()?,
             len: words.get(5)?.parse().ok()?,
             turns: words.get(6)?.parse().ok()?,
-            row: words.get(7)?.parse().ok()?,
         })
     }
 

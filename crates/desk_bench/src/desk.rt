@@ -4,7 +4,9 @@ ghost use Rattle.dma_work.specs.Desk.{Names};
 
 use crate::case::Case;
 use crate::watch::{Measured, Times, Watch};
-use dma_work::{DeskName, InARow, Job, NoGate, Parts, Shared, StatusReader, Tally, run_workers};
+use dma_work::{
+    DeskName, Job, MissingTally, NoGate, Parts, Shared, StatusReader, Tally, run_workers, settle,
+};
 use std::alloc::Global;
 use std::rt::Clock;
 use std::sync::Wait;
@@ -59,11 +61,7 @@ fn work<N: DeskName + Send + Sync, R: Threads + Wait + Sync>(
     if jobs.len() > 8 {
         return None;
     }
-    // with `NoGate` the compiler leaves out the rows
-    if case.row == 1 {
-        return run_workers(rt, alloc, shared, &jobs, &NoGate).ok();
-    }
-    run_workers(rt, alloc, shared, &jobs, &InARow(case.row)).ok()
+    run_workers(rt, alloc, shared, &jobs, &NoGate).ok()
 }
 
 // Returns the tallies, none if the workers didn't begin, and how long they took.
@@ -86,7 +84,7 @@ pub fn time_desk<N: DeskName + Send + Sync, R: Threads + Wait + Clock + CpuClock
     readers: Vec<StatusReader>,
     case: Case,
 ) -> Option<Measured>
-    requires { Names N.opening N.base N.table parts }
+    requires { Names N.opening N.base N.log parts }
 {
     let shared = Shared::<N>::new(parts);
     let (asked, (tallies, stepped)) = thread::join(
@@ -94,15 +92,20 @@ pub fn time_desk<N: DeskName + Send + Sync, R: Threads + Wait + Clock + CpuClock
         || ask_each(rt, readers, case.requests),
         || timed_work(rt, alloc, &shared, case),
     );
-    match shared.into_desk().settle(rt, tallies.as_slice()) {
+    match settle(rt, shared, tallies) {
         Ok((_, totals)) => Some(Measured {
             asked: asked?,
             steps: totals.steps,
             finished: totals.finished,
             stepped: stepped?,
         }),
-        Err(desk) => {
-            drop(desk.close(rt));
+        Err(missing) => {
+            let MissingTally {
+                shared,
+                tallies: _,
+                book: _,
+            } = missing;
+            drop(shared.close(rt));
             None
         }
     }

@@ -1,5 +1,5 @@
 //! Measures requests for statuses without the lock, and steps with and without a desk. It does nothing unless its
-//! arguments say what to measure: the seven numbers of a [`Case`], in order.
+//! arguments say what to measure: the six numbers of a [`Case`], in order.
 #![tactic(auto)]
 
 mod case;
@@ -55,12 +55,8 @@ fn measure<R: Threads + Wait + Clock + CpuClock + Sync>(
 // Measures the steps of channel 0 of an engine.
 fn time_engine<R: Clock + CpuClock>(rt: &R, mut engine: Engine, case: Case) -> Option<Measured> {
     let watch = Watch::started(rt);
-    if case.row > 1 {
-        advance(&mut engine, case);
-    } else {
-        for _ in 0..case.turns() {
-            let _ = engine.step(0);
-        }
+    for _ in 0..case.turns() {
+        let _ = engine.step(0);
     }
     Some(Measured {
         asked: Times::default(),
@@ -68,14 +64,4 @@ fn time_engine<R: Clock + CpuClock>(rt: &R, mut engine: Engine, case: Case) -> O
         finished: engine.finished_all(),
         stepped: Watch::times(watch, rt)?,
     })
-}
-
-// Carries out the copies of channel 0 by calls that take a row of steps each.
-fn advance(engine: &mut Engine, case: Case) {
-    for _ in 0..case.turns() {
-        if engine.finished(0) >= case.copies {
-            return;
-        }
-        let _ = engine.advance(0, case.row);
-    }
 }

@@ -1,8 +1,10 @@
 -- Boards of lists of ticks.
-use Rattle.std.proofs.Common.{◌≡◌, List, [], ◌∷◌, ◌++◌, length, refl, ◌∙◌}
-use Rattle.std.proofs.lemmas.List.{length-set}
-use Rattle.dma_engine.specs.Ticks.{Tick, Submitted, Finished, Board, board_after, ticked}
-use Rattle.dma_work.specs.Ticks.{board_from}
+use Rattle.std.proofs.Common.{◌≡◌, ℕ, ◌≤◌, List, [], ◌∷◌, ◌++◌, length, refl, ◌∙◌, arith}
+use Rattle.std.proofs.lemmas.Grind.{common_steps}
+use Rattle.std.proofs.lemmas.List.{get_or_past, length-set, set_past}
+use Rattle.dma_engine.specs.Ticks.{Tick, Submitted, Finished, Board, board_after, status_of, ticked}
+use Rattle.dma_engine.specs.declared.turn.Status.TheVariants.{Unknown}
+use Rattle.dma_work.specs.{Ticks.board_from, inner.TickForms.channel_of}
 
 -- one tick more
 pub board_push : (base : Board) (ts : List Tick) (t : Tick) → board_from base (ts ++ t ∷ []) ≡ ticked (board_from base ts) t
@@ -22,3 +24,12 @@ ticked_length a (Finished c n) = length-set a c _
 pub after_length : (b : Board) (ts : List Tick) → length (board_after b ts) ≡ length b
 after_length b [] = refl
 after_length b (t ∷ ts) = after_length (ticked b t) ts ∙ ticked_length b t
+
+-- a tick of a channel that the board has not
+pub ticked_past : (b : Board) (t : Tick) → length b ≤ channel_of t → ticked b t ≡ b
+ticked_past b (Submitted ch) past = set_past b ch _ past
+ticked_past b (Finished ch count) past = set_past b ch _ past
+
+-- and a cookie of such a channel
+pub status_past : (b : Board) (ch cookie : ℕ) → length b ≤ ch → status_of b ch cookie ≡ Unknown
+status_past b ch cookie past = grind (arith, get_or_past, common_steps)

@@ -1,28 +1,27 @@
 -- What each call keeps of a desk.
-use Rattle.std.proofs.Common.{◌≡◌, ℕ, ◌+◌, ◌<◌, ◌≤◌, Option, List, [], ◌∷◌, ◌++◌, length, refl, ap, sym, ◌∙◌, arith, append-nil, append_assoc}
-use Rattle.std.proofs.Common.{subst, inl, inr, zero-add}
-use Rattle.std.specs.{Prelude.slice_set, Prelude.Result, List.All}
-use Rattle.std.proofs.{lemmas.Bool.cases_eq, lemmas.List.ext_get_or, lemmas.List.length-map, lemmas.List.get_or-set_same, lemmas.List.get_or-set_other}
+use Rattle.std.proofs.Common.{◌≡◌, ℕ, ◌+◌, ◌<◌, ◌≤◌, List, [], ◌∷◌, ◌++◌, length, refl, ap, sym, ◌∙◌, arith, append-nil, append_assoc}
+use Rattle.std.proofs.Common.{subst, inl, inr, zero-add, true, false}
+use Rattle.std.specs.{Prelude.slice_set, Prelude.Result, Prelude.Ok, Prelude.if◌then◌else◌, List.All}
+use Rattle.std.proofs.{lemmas.Bool.cases_eq, lemmas.Bool.cases_lt, lemmas.List.get_or_past, lemmas.List.ext_get_or, lemmas.List.length-map, lemmas.List.get_or-set_same, lemmas.List.get_or-set_other}
 use Rattle.std.proofs.{lemmas.List.FromFn.get_or-map-range_with_len, lemmas.List.Elements.All-head, lemmas.List.Elements.All-tail, Math.ListN.get_or-map}
-use Rattle.atomic_table.specs.Seated.{TableId}
+use Rattle.logbook.specs.Pages.{Book}
 use Rattle.dma_mem.specs.declared.call.Call.TheVariants.{Checkpoint, Step, Submit, Terminate}
 use Rattle.dma_mem.specs.{Places.Descriptor, declared.call.Call.Call}
-use Rattle.dma_engine.specs.declared.call.Reply.TheVariants.{Cookie, Count, Done, Refused, Turned}
-use Rattle.dma_engine.specs.Advance.{IsAdvance, finishes_counted, steps_counted, ticks_counted}
-use Rattle.dma_engine.specs.Answer.{CallAnswers, StepAnswers, checkpoint_fault, checkpointed, reply_of, unless}
+use Rattle.dma_engine.specs.declared.call.Reply.TheVariants.{Cookie, Count, Done, Turned}
+use Rattle.dma_engine.specs.Answer.{CallAnswers, StepAnswers, checkpoint_fault, checkpointed, reply_of, status_by, status_in}
 use Rattle.dma_engine.specs.Object.{Object, empty_channel, forget, used}
 use Rattle.dma_engine.specs.Ticks.{Tick, Submitted, Finished, Board, Counts, added_up, board_after, board_of, counts, counts_of, no_counts, tick_channel}
-use Rattle.dma_engine.specs.Ticks.{ticked, ticks_of}
+use Rattle.dma_engine.specs.Ticks.{status_of, ticked, ticks_of}
 use Rattle.dma_engine.specs.View.{EngineState, IsSound, View, channels, object_of, size, state_at}
-use Rattle.dma_engine.specs.{declared.call.Reply.Reply, declared.entry.Entry.Entry, declared.fault.EngineFault.EngineFault, declared.turn.Advanced.Advanced}
-use Rattle.dma_engine.specs.{declared.turn.Turn.Turn, Laws.Adds, Laws.IsQuiet, Laws.ticks_in, Turn.finishes_in, Turn.steps_in}
-use Rattle.dma_engine.proofs.CookieCounts.{boards_count, base_counts_bounded, submits_add, terminates_add, ticks_name_channels}
-use Rattle.dma_engine.proofs.{AdvanceResults.advance_adds, Advances.advance_keeps, CallLists.answers_extend, CallLists.quiet_extends}
-use Rattle.dma_engine.proofs.{AnswerCounts.quiet_calls_keep_counts, AnswerCounts.steps_add, Checkpoint.accepted, Checkpoint.checkpoints_keep}
-use Rattle.dma_engine.proofs.{Sizes.many_channels, Sizes.size_object, Turns.answer_is}
-use Rattle.dma_work.specs.inner.Published.{PublishedList, HasActed, PublisherState, list_and, list_with}
-use Rattle.dma_work.specs.Ticks.{AreFinished, IsGiven, base_of, board_from, eight}
-use Rattle.dma_work.specs.{declared.worker.Totals.Totals, Desk.Names, Desk.advanced_book, Desk.stepped_book, inner.DeskKept.IsKept}
+use Rattle.dma_engine.specs.{declared.call.Reply.Reply, declared.entry.Entry.Entry, declared.fault.EngineFault.EngineFault}
+use Rattle.dma_engine.specs.{declared.turn.Turn.Turn, Laws.Adds, Laws.IsQuiet, Laws.ticks_in, Turn.ends, Turn.finishes_in, Turn.steps_in, Turn.turn}
+use Rattle.dma_engine.proofs.CookieCounts.{boards_count, base_counts_bounded, status_by_ticks, submits_add, terminates_add, ticks_name_channels}
+use Rattle.dma_engine.proofs.{CallLists.answers_extend, CallLists.quiet_extends}
+use Rattle.dma_engine.proofs.{AnswerCounts.ends_as_reported, AnswerCounts.quiet_calls_keep_counts, AnswerCounts.steps_add, Checkpoint.accepted, Checkpoint.checkpoints_keep}
+use Rattle.dma_engine.proofs.{Sizes.many_channels, Sizes.size_object}
+use Rattle.dma_work.specs.inner.Published.{PublishedList, HasActed, PublisherState, Publishes, list_and, list_with}
+use Rattle.dma_work.specs.Ticks.{AreFinished, IsGiven, base_of, board_from, eight, status_after}
+use Rattle.dma_work.specs.{declared.worker.Totals.Totals, Desk.Names, Desk.stepped_book, inner.DeskKept.IsKept}
 use Rattle.dma_work.proofs.Boards.{after_length, board_append, ticked_length}
 
 -- ---- boards that agree at the channels 0 to 7
@@ -64,30 +63,41 @@ after_eight b ts few below =
 history_eight : (v : View) → IsSound v → board_after (base_of v) (ticks_of v.history) ≡ eight (board_after (board_of v.base) (ticks_of v.history))
 history_eight v h = grind (arith, base_counts_bounded, after_eight, arith, subst, sym, ticks_name_channels)
 
--- ---- calls that are refused
+-- ---- steps
 
-refused_still : (f : Option EngineFault) (v w : View) (x : Reply × View) (g : EngineFault) → (Refused g ≡ x.0 → ⊥) → (Refused g, w) ≡ unless f v x → w ≡ v
-refused_still x0 x1 x2 x3 x4 x5 x6 = grind (arith, ap)
+-- a step that its turn doesn't end has no tick
+pub goes_on : (v w : View) (ch : ℕ) (r : Result Turn EngineFault) → ends (turn v ch).0 ≡ false → StepAnswers v ch r w → ticks_in ch r ≡ []
+goes_on v w ch r on h =
+    let is : ends r ≡ false = elim (ends_as_reported v w ch r h) [ inl starved ↦ ap ends starved | inr same ↦ same ∙ on ] in
+    ap (λ x. if x then Finished ch 1 ∷ [] else []) is
 
-pub submit_still : (v w : View) (ch : ℕ) (t : Descriptor) (g : EngineFault) → CallAnswers v (Submit ch t) (Refused g) w → w ≡ v
-submit_still v w ch t g h = grind (arith, answer_is, inl, inr, refused_still)
+-- one that its turn ends has one
+pub ended : (v w : View) (ch : ℕ) (t : Turn) → ends (turn v ch).0 ≡ true → StepAnswers v ch (Ok t) w → ticks_in ch (Ok t) ≡ Finished ch 1 ∷ []
+ended v w ch t over h =
+    let is : ends (Ok t) ≡ true = elim (ends_as_reported v w ch (Ok t) h) [ inl starved ↦ absurd (cc starved) | inr same ↦ same ∙ over ] in
+    ap (λ x. if x then Finished ch 1 ∷ [] else []) is
 
 -- ---- what is published after a call
 
--- the engine has added one more tick
-pub acted_next : (p : PublisherState) (v w : View) (t u : Tick) → ticks_of w.history ≡ ticks_of v.history ++ u ∷ [] → t ≡ u
-    → p.before ++ ticks_of v.history ≡ p.shown.ticks → HasActed p w t
-acted_next p v w t u more is shown = rw (is, more) (sym (append_assoc p.before (ticks_of v.history) (u ∷ [])) ∙ ap (λ x. x ++ u ∷ []) shown)
+-- one more tick was made ready, and the engine has added it
+pub acted_next : (p r : PublisherState) (v m w : View) (t u : Tick) → m ≡ v → ticks_of w.history ≡ ticks_of m.history ++ u ∷ [] → t ≡ u
+    → (r.shown ≡ p.shown) × (r.before ≡ p.before) → p.before ++ ticks_of v.history ≡ p.shown.ticks → HasActed r w t
+acted_next p r v m w t u same more is kept shown =
+    rw (kept.0, kept.1, is, more, same) (sym (append_assoc p.before (ticks_of v.history) (u ∷ [])) ∙ ap (λ x. x ++ u ∷ []) shown)
 
 -- no tick more is published
-pub no_more : (p : PublisherState) → p ≡ record p { shown = list_and p.shown [] }
-no_more p = ap (λ l. record p { shown = record (p.shown) { ticks = l } }) (sym (append-nil p.shown.ticks))
+pub publishes_none : (p q : PublisherState) → (q.shown ≡ p.shown) × (q.before ≡ p.before) → q.pending ≡ [] → Publishes p [] q
+publishes_none p q kept none = record {
+  shown = kept.0 ∙ ap (λ l. record (p.shown) { ticks = l }) (sym (append-nil p.shown.ticks));
+  pending = none;
+  before = kept.1;
+}
 
 -- the sizes of views with one base
-pub same_size : (v w : View) → w.base ≡ v.base → size w ≡ size v
+same_size : (v w : View) → w.base ≡ v.base → size w ≡ size v
 same_size v w same = size_object w.base w.history ∙ ap (λ (o : Object). length o.image) same ∙ sym (size_object v.base v.history)
 
-pub same_many : (v w : View) → w.base ≡ v.base → channels w ≡ channels v
+same_many : (v w : View) → w.base ≡ v.base → channels w ≡ channels v
 same_many v w same = many_channels w.base w.history ∙ ap (λ (o : Object). length o.channels) same ∙ sym (many_channels v.base v.history)
 
 -- The published board has the engine's own counts of each channel.
@@ -99,58 +109,89 @@ board_counts base before v opens h ch less =
     ∙ ap (λ b. counts b ch) (boards_count v h)
     ∙ get_or-map counts_of (object_of v).channels ch empty_channel
 
+-- The published board has the engine's own status of each cookie.
+pub board_status : (base : Board) (before : List Tick) (v : View) → board_from base before ≡ base_of v → IsSound v → (ch cookie : ℕ)
+    → status_after base (before ++ ticks_of v.history) ch cookie ≡ status_in v ch cookie
+board_status base before v opens h ch cookie =
+    let b = board_after (board_of v.base) (ticks_of v.history) in
+    let bounds = base_counts_bounded v h in
+    let few : length b ≤ 8 = omega (arith, after_length (board_of v.base) (ticks_of v.history), bounds.0, bounds.1) in
+    let same : counts (eight b) ch ≡ counts b ch = elim (cases_lt ch 8) [
+      | inl less ↦ counts_eight b ch less
+      | inr past ↦ get_or_past (eight b) ch no_counts past ∙ sym (get_or_past b ch no_counts (omega (arith, few, past)))
+    ] in
+    ap (λ x. status_of x ch cookie)
+    (board_append base before (ticks_of v.history) ∙ ap (λ x. board_after x (ticks_of v.history)) opens ∙ history_eight v h)
+    ∙ ap (λ (c : Counts). status_by c.used c.finished cookie) same
+    ∙ sym (status_by_ticks v ch cookie h)
+
 -- The same desk under a new name, with an empty book.
-pub kept_anew : (opening opening_now : View) (base base_now : Board) (table table_now : TableId) (engine : EngineState) (p : PublisherState) (b e : Totals)
-    → IsKept opening base table engine p b → Names opening_now base_now table_now (record { engine = engine; base = base; table = table }) → (e.steps ≡ 0)
-    × (e.finished ≡ 0) × (e.terminated ≡ 0) → IsKept opening_now base_now table_now engine p e
-kept_anew opening opening_now base base_now table table_now engine p b e k names none = grind (arith, arith, ap, sym)
+pub kept_anew : (opening opening_now : View) (base base_now : Board) (log log_now : Book) (engine : EngineState) (p : PublisherState) (b e : Totals)
+    → IsKept opening base log engine p b → Names opening_now base_now log_now (record { engine = engine; base = base; log = log }) → (e.steps ≡ 0)
+    × (e.finished ≡ 0) × (e.terminated ≡ 0) → IsKept opening_now base_now log_now engine p e
+kept_anew opening opening_now base base_now log log_now engine p b e k names none = grind (arith, arith, ap, sym)
 
 -- what each call keeps of a desk
-module _ {opening : View} {base : Board} {table : TableId} {old : EngineState} {p : PublisherState} {b : Totals} (k : IsKept opening base table old p b) where
+module _ {opening : View} {base : Board} {log : Book} {old : EngineState} {p : PublisherState} {b : Totals} (k : IsKept opening base log old p b) where
   abbrev Kept : EngineState → PublisherState → Totals → Type 0
-  Kept = IsKept opening base table
+  Kept = IsKept opening base log
 
   board : List Tick → PublishedList
-  board ticks = record { base = base; ticks = ticks; table = table }
+  board ticks = record { base = base; ticks = ticks; log = log }
 
   -- a call that adds ticks, which are published, and counts in the book as it does in the engine
   kept_by : (new : EngineState) (q : PublisherState) (e : Totals) (more : List Tick) (moves finishes : ℕ) → Adds old.view new.view more moves finishes
-      → new.view.base ≡ old.view.base → q ≡ record p { shown = list_and p.shown more } → e.steps ≡ b.steps + moves
+      → new.view.base ≡ old.view.base → Publishes p more q → e.steps ≡ b.steps + moves
       → e.finished + e.terminated ≡ b.finished + b.terminated + finishes → Kept new q e
   unfolding board
-  kept_by new q e more moves finishes a same is steps done = grind (arith, ap, board, append_assoc, sym, arith, same_size, same_many)
+  kept_by new q e more moves finishes a same is steps done = record {
+    shown = is.shown ∙ ap (λ (x : PublishedList). list_and x more) k.shown
+        ∙ ap board (append_assoc p.before (ticks_of old.view.history) more ∙ ap (λ l. p.before ++ l) (sym a.ticks)
+        ∙ ap (λ l. l ++ ticks_of new.view.history) (sym is.before));
+    pending = is.pending;
+    opens = ap (board_from base) is.before ∙ k.opens ∙ ap (λ o. eight (board_of o)) (sym same);
+    small = k.small;
+    counts = record {
+      steps = omega (arith, k.counts.steps, a.steps, steps);
+      finished = omega (arith, k.counts.finished, a.finished, done);
+    };
+    bytes_are = same_size old.view new.view same ∙ k.bytes_are;
+    many_are = same_many old.view new.view same ∙ k.many_are;
+  }
 
-  -- a call that changes no view
-  pub kept_still : (new : EngineState) → new.view ≡ old.view → Kept new p b
-  kept_still new same = grind (arith)
+  -- a call that changes no view, and publishes nothing
+  pub kept_still : (new : EngineState) (q : PublisherState) → new.view ≡ old.view → Publishes p [] q → Kept new q b
+  kept_still new q same is =
+      let a : Adds old.view new.view [] 0 0 = rw same (record { ticks = sym (append-nil (ticks_of old.view.history)); steps = omega arith; finished = omega arith }) in
+      kept_by new q b [] 0 0 a (ap (λ (v : View). v.base) same) is (omega arith) (omega arith)
 
   -- a call that gives no cookie and finishes none
   pub kept_quiet : (new : EngineState) (call : Call) (reply : Reply) → IsQuiet call → CallAnswers old.view call reply new.view → Kept new p b
   kept_quiet new call reply q h =
       let t = quiet_calls_keep_counts old.view new.view call reply q h in
       let a : Adds old.view new.view [] 0 0 = grind (arith, sym, append-nil, arith) in
-      kept_by new p b [] 0 0 a (answers_extend old.view new.view call reply (quiet_extends call reply q) h).0 (no_more p) (omega arith) (omega arith)
+      kept_by new p b [] 0 0 a (answers_extend old.view new.view call reply (quiet_extends call reply q) h).0
+      (publishes_none p p (refl, refl) k.pending) (omega arith) (omega arith)
 
   -- a step
   pub kept_step : (new : EngineState) (q : PublisherState) (ch : ℕ) (r : Result Turn EngineFault) → StepAnswers old.view ch r new.view
-      → q ≡ record p { shown = list_and p.shown (ticks_in ch r) } → Kept new q (stepped_book b r)
+      → Publishes p (ticks_in ch r) q → Kept new q (stepped_book b r)
   kept_step new q ch r h is =
       kept_by new q (stepped_book b r) (ticks_in ch r) (steps_in r) (finishes_in r) (steps_add old.view new.view ch r h)
       (answers_extend old.view new.view (Step ch) (reply_of Turned r) refl h).0 is refl (omega arith)
 
-  -- consecutive steps
-  pub kept_advance : (new : EngineState) (q : PublisherState) (ch most : ℕ) (a : Advanced) → IsAdvance old.view ch most a new.view
-      → q ≡ record p { shown = list_and p.shown (ticks_counted ch a) } → Kept new q (advanced_book b a)
-  kept_advance new q ch most a h is =
-      kept_by new q (advanced_book b a) (ticks_counted ch a) (steps_counted a) (finishes_counted a) (advance_adds old.view new.view ch most a h)
-      (advance_keeps old.view new.view ch most a h).0.0 is refl (omega arith)
-
-  -- the engine added one more tick, and it was published
-  pub kept_next : (new : EngineState) (q : PublisherState) (e : Totals) (t u : Tick) (moves finishes : ℕ) → Adds old.view new.view (u ∷ []) moves finishes
-      → new.view.base ≡ old.view.base → t ≡ u → q ≡ record p { shown = list_with p.shown t } → e.steps ≡ b.steps + moves
-      → e.finished + e.terminated ≡ b.finished + b.terminated + finishes → Kept new q e
-  kept_next new q e t u moves finishes a from is published steps done =
-      kept_by new q e (u ∷ []) moves finishes a from (published ∙ ap (λ x. record p { shown = list_with p.shown x }) is) steps done
+  -- one more tick was made ready, the engine added it, and it was published
+  pub kept_next : (m new : EngineState) (r q : PublisherState) (e : Totals) (t u : Tick) (moves finishes : ℕ) → m.view ≡ old.view
+      → Adds m.view new.view (u ∷ []) moves finishes → new.view.base ≡ m.view.base → t ≡ u → (r.shown ≡ p.shown) × (r.before ≡ p.before)
+      → Publishes r (t ∷ []) q → e.steps ≡ b.steps + moves → e.finished + e.terminated ≡ b.finished + b.terminated + finishes → Kept new q e
+  kept_next m new r q e t u moves finishes same a from tick kept is steps done =
+      let all : Publishes p (u ∷ []) q = record {
+        shown = is.shown ∙ ap (λ x. list_with x t) kept.0 ∙ ap (list_with p.shown) tick;
+        pending = is.pending;
+        before = is.before ∙ kept.1;
+      } in
+      kept_by new q e (u ∷ []) moves finishes (subst (λ v. Adds v new.view (u ∷ []) moves finishes) same a)
+      (from ∙ ap (λ (v : View). v.base) same) all steps done
 
   -- a checkpoint: what was published comes before the new history
   pub kept_checkpoint : (new : EngineState) (q : PublisherState) → IsSound old.view → CallAnswers old.view Checkpoint Done new.view
@@ -163,6 +204,7 @@ module _ {opening : View} {base : Board} {table : TableId} {old : EngineState} {
       let before : p.shown.ticks ≡ p.before ++ ticks = ap (λ (x : PublishedList). x.ticks) k.shown in
       rw is (record {
         shown = k.shown ∙ ap board (sym before ∙ sym (ap (λ (es : List Entry). p.shown.ticks ++ ticks_of es) c.0 ∙ append-nil p.shown.ticks));
+        pending = k.pending;
         opens = ap (board_from base) before ∙ board_append base p.before ticks ∙ ap (λ x. board_after x ticks) k.opens
             ∙ history_eight old.view sound
             ∙ ap eight (boards_count old.view sound ∙ sym c.1);

@@ -1,15 +1,19 @@
 -- The turns that were taken on a shift.
-use Rattle.std.proofs.Common.{◌≡◌, ℕ, zero, suc, ◌+◌, ◌<◌, ◌≤◌, List, [], ◌∷◌, ◌++◌, length, sum_by, take, map, refl, sym, ap, ◌∙◌, subst, arith, add-one}
+use Rattle.std.proofs.Common.{◌≡◌, ℕ, zero, suc, ◌+◌, ◌-◌, ◌<◌, true, List, [], ◌∷◌, ◌++◌, length, sum_by, take, map, refl, sym, ap, ◌∙◌, subst, inl, inr, arith, add-one}
 use Rattle.std.specs.{Prelude.Result, Prelude.slice_index_or, Prelude.slice_set, List.All}
-use Rattle.std.proofs.lemmas.List.{get_or-map, get_or_default, length-map, map-append, map-set, take_more}
+use Rattle.std.proofs.lemmas.Bool.{cases_eq}
+use Rattle.std.proofs.lemmas.List.{get_or-map, get_or-set_other, get_or-set_same, get_or_default, length-map, length-set, map-append, map-set, take_more}
 use Rattle.std.proofs.lemmas.List.Elements.{All-head, All-push, All-tail}
 use Rattle.std.proofs.{Math.Seq.map-set_same, lemmas.List.Sums.sum_by-append}
 use Rattle.dma_engine.specs.Interleaved.{Interleaves, JobTurn, channel_at, rotation, turns_taken}
-use Rattle.dma_engine.specs.{Turn.finishes_in, Turn.steps_in, Turn.turn, View.View, declared.fault.EngineFault.EngineFault, declared.turn.Turn.Turn}
+use Rattle.dma_mem.specs.declared.call.Call.TheVariants.{Step}
+use Rattle.dma_engine.specs.{Answer.takes_memory, Turn.finishes_in, Turn.steps_in, Turn.turn, View.View}
+use Rattle.dma_engine.specs.{declared.fault.EngineFault.EngineFault, declared.turn.Turn.Turn}
 use Rattle.dma_engine.proofs.Interleavings.{interleaves_more, taken_append}
-use Rattle.dma_work.specs.Shift.{AreNewSeats, IsDone, TakesNext, TakesStep, TookAllTurns, TookTurnsOn, channels_of_job, jobs_of}
+use Rattle.dma_work.specs.Shift.{AreNewSeats, HasNoTurn, IsDone, IsInTurn, LacksMemory, ShiftState, TakesATurn, TakesNext, TakesStep}
+use Rattle.dma_work.specs.Shift.{TookAllTurns, TookTurnsOn, channels_of_job, channels_taken, jobs_of}
 use Rattle.dma_work.specs.{declared.job.Job.Job, declared.seat.Seat.Seat, declared.worker.Totals.Totals, Desk.DeskState, Desk.stepped_book}
-use Rattle.dma_work.specs.{inner.InTurn.IsInTurn, inner.InTurn.channels_taken}
+use Rattle.dma_work.specs.inner.InTurn.{GoesOn, HasLeft, IsAtWork}
 
 -- ---- one turn more
 
@@ -93,13 +97,76 @@ takes_next worker seats now was seat same less at more =
           ∙ ap (λ (x : Seat). channel_at seat.job.first seat.job.last x.taken) (item s);
     }
 
--- ---- all turns
+-- ---- a turn that is out of memory
 
-pub done_more : (seats : List Seat) (n : ℕ) (seat : Seat) → n < length seats → seat ≡ slice_index_or seats n seat → seat.job.turns ≤ seat.taken
-    → All IsDone (take n seats) → All IsDone (take (n + 1) seats)
-done_more seats n seat less at past done =
-    subst (All IsDone) (sym (take_more seats n seat less))
-    (All-push IsDone (take n seats) (slice_index_or seats n seat) done (subst IsDone at (omega (arith, past, seat.within))))
+pub out_of_memory : (opening : View) (jobs : List Job) (old new : DeskState) (worker ch : ℕ) (seats after : List Seat) → LacksMemory ch old new
+    → TakesNext worker ch seats after → IsInTurn opening jobs old.engine.view old.book seats
+    → IsAtWork opening jobs new.engine.view new.book seats true
+out_of_memory opening jobs old new worker ch seats after lacks next h =
+    let same : new.engine.view ≡ old.engine.view = lacks.still.0 in record {
+      in_turn = (
+        h.0,
+        subst (λ b. TookTurnsOn opening (map channels_taken seats) new.engine.view b) (sym lacks.still.1.0)
+            (subst (λ v. TookTurnsOn opening (map channels_taken seats) v old.book) (sym same) h.1),
+      );
+      starved = λ _. (
+        worker,
+        record { channel = ch; after = after; next = next; memory = ap (λ v. takes_memory v (Step ch)) same ∙ lacks.memory },
+      );
+    }
+
+-- ---- the turns that are left
+
+pub left_is : (worker : ℕ) (seats now : List Seat) (seat : Seat) → seats ≡ now → worker < length seats → seat ≡ slice_index_or seats worker seat
+    → HasLeft worker (seat.job.turns - seat.taken) now
+left_is worker seats now seat same less at s _ =
+    let item : seat ≡ slice_index_or now worker s = at ∙ get_or_default seats worker seat s less ∙ ap (λ l. slice_index_or l worker s) same in
+    omega (arith, ap (λ (x : Seat). x.taken) item, ap (λ (x : Seat). x.job.turns) item, seat.within)
+
+-- one turn fewer is left of the worker's job
+pub left_less : (worker ch more left : ℕ) (old new : List Seat) → TakesNext worker ch old new → more ≡ left + 1 → HasLeft worker more old
+    → HasLeft worker left new
+left_less worker ch more left old new next is had s _ =
+    let seat = next.seat in
+    let item : slice_index_or new worker s ≡ seat = ap (λ l. slice_index_or l worker s) next.now ∙ get_or-set_same old worker seat s next.there in
+    omega (
+      arith,
+      ap (λ (x : Seat). x.taken) item,
+      ap (λ (x : Seat). x.job.turns) item,
+      next.taken s,
+      ap (λ (j : Job). j.turns) (next.job s),
+      had s next.there,
+      is,
+    )
+
+next_done : (worker ch k : ℕ) (old new : List Seat) → TakesNext worker ch old new → HasNoTurn k old → HasNoTurn k new
+next_done worker ch k old new next done s less =
+    let many : length new ≡ length old = ap length next.now ∙ length-set old worker next.seat in
+    elim (cases_eq k worker) [
+      | inl same ↦
+          let was = subst (λ i. HasNoTurn i old) same done s next.there in
+          absurd (omega (arith, was, next.taken s, ap (λ (j : Job). j.turns) (next.job s), next.seat.within))
+      | inr other ↦
+          let item : slice_index_or new k s ≡ slice_index_or old k s =
+          ap (λ l. slice_index_or l k s) next.now ∙ get_or-set_other old worker k next.seat s other in
+          subst IsDone (sym item) (done s (omega (arith, less, many)))
+    ]
+
+pub goes_on_then : (a b c : ShiftState) → GoesOn a b → GoesOn b c → GoesOn a c
+goes_on_then a b c first next = record {
+  starved = λ was. next.starved (first.starved was);
+  done = λ worker none. next.done worker (first.done worker none);
+  many = next.many ∙ first.many;
+}
+
+pub goes_on_turn : (worker : ℕ) (old new : ShiftState) → TakesATurn worker old new → GoesOn old new
+goes_on_turn worker old new turn = record {
+  starved = λ was. absurd (cc (was, turn.not_starved.0));
+  done = λ k. next_done worker turn.channel k old.seats new.seats turn.next;
+  many = ap length turn.next.now ∙ length-set old.seats worker turn.next.seat;
+}
+
+-- ---- all turns
 
 all_channels : (seats : List Seat) → All IsDone seats → map channels_taken seats ≡ map channels_of_job (jobs_of seats)
 all_channels [] done = refl

@@ -1,19 +1,19 @@
 -- What contracts see of a desk.
 use Rattle.std.specs.{Prelude.◌≡◌, Prelude.◌≢◌, Prelude.◌⊎◌, Prelude.ℕ, Prelude.◌+◌, Prelude.List, Prelude.◌++◌, Prelude.Result, List.sum_by}
-use Rattle.atomic_table.specs.Seated.{TableId}
+use Rattle.logbook.specs.Pages.{Book}
 use Rattle.dma_mem.specs.declared.call.Call.{Call}
 use Rattle.dma_engine.specs.View.{EngineState, IsSound, View, channels, memory_of, object_of, size}
-use Rattle.dma_engine.specs.{Advance.finishes_counted, Advance.steps_counted, Advance.steps_taken, Answer.CallAnswers, Answer.StepAnswers, Object.finished_all}
+use Rattle.dma_engine.specs.{Answer.CallAnswers, Answer.StepAnswers, Object.finished_all}
 use Rattle.dma_engine.specs.{Ticks.Board, Ticks.Tick, Ticks.ticks_of, Turn.finishes_in, Turn.steps_in, declared.call.Reply.Reply}
-use Rattle.dma_engine.specs.{declared.fault.EngineFault.EngineFault, declared.turn.Advanced.Advanced, declared.turn.Turn.Turn}
+use Rattle.dma_engine.specs.{declared.fault.EngineFault.EngineFault, declared.turn.Turn.Turn}
 use Rattle.dma_work.specs.declared.worker.Totals.{Totals}
 
--- The parts of a desk: an engine, the table at which its published list is read, and the counts with which the board of
+-- The parts of a desk: an engine, the log of its published list, and the counts with which the board of
 -- that list begins.
 pub record PartsState : Type 0 where
   pub engine : EngineState
   pub base : Board
-  pub table : TableId
+  pub log : Book
 
 -- A desk: its engine, its book of totals, and the ticks that were published before those of the engine's history. There
 -- are none before the desk's first checkpoint.
@@ -37,9 +37,9 @@ pub record CountsSince (opening v : View) (book : Totals) : Type 0 where
   pub steps : opening.steps + book.steps ≡ v.steps
   pub finished : finished_all (object_of opening) + (book.finished + book.terminated) ≡ finished_all (object_of v)
 
--- These parts have this view, base and table.
-abbrev pub Names : View → Board → TableId → PartsState → Type 0
-Names opening base table p = (opening ≡ p.engine.view) × (base ≡ p.base) × (table ≡ p.table)
+-- These parts have this view, base and log.
+abbrev pub Names : View → Board → Book → PartsState → Type 0
+Names opening base log p = (opening ≡ p.engine.view) × (base ≡ p.base) × (log ≡ p.log)
 
 -- The book is unchanged, and so are the ticks that were published before those of the history.
 abbrev pub SameBook : DeskState → DeskState → Type 0
@@ -108,28 +108,6 @@ pub record CountsAStep
   pub book : new.book ≡ stepped_book old.book answer
   pub before_history : new.before ≡ old.before
   pub count : tally_after ≡ counted answer tally
-
--- A desk, and a tally of steps of it.
-pub record TalliedDesk : Type 0 where
-  pub tally : TallyCounts
-  pub desk : DeskState
-
--- a step of a channel of the desk, counted in the tally
-abbrev pub CountsInTally : View → TalliedDesk → ℕ → TalliedDesk → Type 0
-CountsInTally opening old ch new = CountsAStep opening ch old.tally old.desk new.tally new.desk
-
--- a tally after consecutive steps
-abbrev pub counted_all : Advanced → TallyCounts → TallyCounts
-counted_all a t =
-    record t {
-      turns = t.turns + steps_taken a;
-      steps = t.steps + steps_counted a;
-      finishes = t.finishes + finishes_counted a;
-    }
-
--- the book after consecutive steps
-abbrev pub advanced_book : Totals → Advanced → Totals
-advanced_book b a = record b { steps = b.steps + steps_counted a; finished = b.finished + finishes_counted a }
 
 -- A worker: the lender of its desk, and its tally.
 pub record WorkerState (L : Type 0) : Type 0 where

@@ -1,8 +1,9 @@
 -- A desk that works on jobs.
 use Rattle.std.specs.Prelude.{◌≡◌, ℕ, ◌+◌, ◌<◌, ◌⊎◌, Bool, true, false, List, map, length, slice_index_or, slice_set}
 use Rattle.std.specs.List.{All, sum_by}
+use Rattle.dma_mem.specs.declared.call.Call.TheVariants.{Step}
 use Rattle.dma_engine.specs.Interleaved.{Interleaves, JobTurn, channel_at, rotation, turns_taken}
-use Rattle.dma_engine.specs.{Turn.finishes_in, Turn.steps_in, Turn.turn, View.View}
+use Rattle.dma_engine.specs.{Answer.takes_memory, Turn.finishes_in, Turn.steps_in, Turn.turn, View.View}
 use Rattle.dma_work.specs.{declared.job.Job.Job, declared.seat.Seat.Seat, declared.worker.Totals.Totals, Desk.DeskState, Desk.SameBook, Desk.stepped_book}
 
 -- A desk at work; a seat for each job: the job, and how many of its turns were taken; and whether a turn was out of
@@ -48,6 +49,18 @@ pub record TakesStep (ch : ℕ) (old new : DeskState) : Type 0 where
 abbrev pub TakesNoStep : DeskState → DeskState → Type 0
 TakesNoStep old new = (new.engine.view ≡ old.engine.view) × SameBook old new
 
+-- A step of a channel takes memory, and a desk takes no step.
+pub record LacksMemory (ch : ℕ) (old new : DeskState) : Type 0 where
+  pub memory : takes_memory old.engine.view (Step ch) ≡ true
+  pub still : TakesNoStep old new
+
+-- The next turn of a worker's job takes memory: it is a step, of this channel, that takes memory.
+pub record NeedsMemory (worker : ℕ) (view : View) (seats : List Seat) : Type 0 where
+  pub channel : ℕ
+  pub after : List Seat
+  pub next : TakesNext worker channel seats after
+  pub memory : takes_memory view (Step channel) ≡ true
+
 -- The next turn of a worker's job was taken: a step of its channel. No turn was out of memory.
 pub record TakesATurn (worker : ℕ) (old new : ShiftState) : Type 0 where
   pub not_starved : (old.is_starved ≡ false) × (new.is_starved ≡ false)
@@ -55,10 +68,12 @@ pub record TakesATurn (worker : ℕ) (old new : ShiftState) : Type 0 where
   pub next : TakesNext worker channel old.seats new.seats
   pub step : TakesStep channel old.desk new.desk
 
--- No turn was taken: the worker has none left, or a turn was out of memory, now or before.
+-- No turn was taken: the worker has none left, or a turn was out of memory, now or before. If it is now, the turn takes
+-- memory.
 pub record TakesNoTurn (worker : ℕ) (old new : ShiftState) : Type 0 where
   pub why : (new.is_starved ≡ true) ⊎ HasNoTurn worker old.seats
   pub stays : old.is_starved ≡ true → new.is_starved ≡ true
+  pub memory : new.is_starved ≡ true → (old.is_starved ≡ true) ⊎ NeedsMemory worker old.desk.engine.view old.seats
   pub desk : TakesNoStep old.desk new.desk
   pub seats : new.seats ≡ old.seats
 
@@ -79,3 +94,23 @@ channels_of_job job = rotation job.first job.last job.turns
 -- steps and finishes.
 abbrev pub TookAllTurns : View → List Job → View → Totals → Type 0
 TookAllTurns opening jobs view book = TookTurnsOn opening (map channels_of_job jobs) view book
+
+-- the channels of a seat's turns that were taken, in order
+abbrev pub channels_taken : Seat → List ℕ
+channels_taken s = rotation s.job.first s.job.last s.taken
+
+-- From the opening view to this one, nothing was done but the turns that the seats of these jobs count. The book has
+-- their steps and finishes.
+abbrev pub IsInTurn : View → List Job → View → Totals → List Seat → Type 0
+IsInTurn opening jobs view book seats =
+    (jobs_of seats ≡ jobs) × TookTurnsOn opening (map channels_taken seats) view book
+
+-- From the opening view on, some turns of these jobs were taken, and nothing else was done. Then the next turn of one of
+-- the jobs takes memory, and so a shift may be out of memory.
+pub record MayRunOut (opening : View) (jobs : List Job) : Type 0 where
+  pub view : View
+  pub book : Totals
+  pub seats : List Seat
+  pub in_turn : IsInTurn opening jobs view book seats
+  pub worker : ℕ
+  pub needs : NeedsMemory worker view seats

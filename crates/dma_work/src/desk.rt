@@ -1,43 +1,40 @@
 //! The desk: an engine, a book of totals, and the publisher of what status readers see.
 
-ghost use Rattle.std.specs.Prelude.{◌≡◌, ◌+◌, ◌<◌, ◌≤◌, ◌^◌, [], replicate, IfOk, IfErr, IfSome, IsTrue, OnErr};
-ghost use Rattle.dma_engine.specs.Advance.{IsAdvance, steps_taken};
-ghost use Rattle.dma_engine.specs.Answer.{CallAnswers, StepAnswers, next_cookie, reply_of};
+ghost use Rattle.std.specs.Prelude.{◌≡◌, ◌+◌, ◌<◌, [], IfOk, IfErr, IfSome, OnErr};
+ghost use Rattle.dma_engine.specs.Answer.{CallAnswers, StepAnswers, next_cookie, reply_of, status_in};
 ghost use Rattle.dma_engine.specs.Laws.{IsQuiet};
 ghost use Rattle.dma_engine.specs.Object.{channel, used};
 ghost use Rattle.dma_engine.specs.Room.{HasNoSpare};
 ghost use Rattle.dma_engine.specs.View.{memory_of, object_of};
-ghost use Rattle.dma_engine.specs.declared.turn.Advanced.{Advanced};
-ghost use Rattle.dma_work.specs.Desk.{CountsInTally, CountsSince, Differ, IsSettled, IsSoundOf, Names, SameBook, counted, new_tally, no_totals, published, stepped_book};
+ghost use Rattle.dma_work.specs.Desk.{CountsSince, Differ, IsSettled, IsSoundOf, Names, SameBook, counted, new_tally, no_totals, published, stepped_book};
 ghost use Rattle.dma_work.specs.Known.{knows};
 ghost use Rattle.dma_work.specs.Laws.{AreCounts};
-ghost use Rattle.dma_work.specs.Rotation.{StepsInTurn};
-ghost use Rattle.dma_work.specs.Ticks.{base_of, board_from};
+ghost use Rattle.dma_work.specs.Ticks.{StartsWith, base_of, board_from};
 
 mod host_calls;
 
-use crate::publisher::{Parts, Publisher};
+use crate::parts::Parts;
+use crate::publisher::Publisher;
 use crate::reader::{Closed, Receipt, StatusReader, Ticket};
 use crate::tick::{Change, Tick};
 use crate::worker::{Tally, Totals};
-use dma_engine::{Call, Engine, EngineFault, Reply, SubmitFault, Turn};
+use dma_engine::{Call, Engine, EngineFault, Reply, Status, SubmitFault, Turn};
 use dma_mem::transfer::Transfer;
 use std::marker::{Brand, Model, PhantomData};
 use std::sync::Wait;
 
-/// Names a desk by the table at which its published list is read, the counts with which this list begins, the engine's
-/// view when the desk was made, and the jobs of its shift, if it is on one.
+/// Names a desk by the log of its published list, the counts with which this list begins, the engine's view when the
+/// desk was made, and the jobs of its shift, if it is on one.
 pub trait DeskName {
     ghost use Rattle.std.specs.Prelude.{List};
-    ghost use Rattle.atomic_table.specs.Seated.{TableId};
+    ghost use Rattle.logbook.specs.Pages.{Book};
     ghost use Rattle.dma_engine.specs.Ticks.{Board};
     ghost use Rattle.dma_engine.specs.View.{View};
     ghost use Rattle.dma_work.specs.declared.job.Job.{Job};
 
     ghost base: { Board };
 
-    // the table at which the published list is read
-    ghost table: { TableId };
+    ghost log: { Book };
 
     ghost opening: { View };
 
@@ -50,15 +47,7 @@ impl DeskName for Brand {
 
     ghost base = { [] };
 
-    ghost table = { record {
-      words = 0;
-      slots = 0;
-      views_name = 0;
-      atom = 0;
-      block = 0;
-      offset = 0;
-      slot_names = [];
-    } };
+    ghost log = { record { number = 0; log_name = 0; cells_name = 0 } };
 
     ghost opening = { new_view 0 0 };
 
@@ -67,9 +56,10 @@ impl DeskName for Brand {
 
 /// The value behind the lock: an engine, a book of what was done through it, and the publisher for status readers.
 ///
-/// Its type guarantees four facts. The published list ends with the ticks of the engine's history. The published ticks
-/// before those add up to the counts with which the history begins. The book has what the step count and the number of
-/// finished cookies have risen by since N's opening view. The engine has that view's size and number of channels.
+/// Its type guarantees four facts. The published list ends with the ticks of the engine's history, and no tick is
+/// pending. The published ticks before those add up to the counts with which the history begins. The book has what the
+/// step count and the number of finished cookies have risen by since N's opening view. The engine has that view's size
+/// and number of channels.
 pub struct Desk<N: DeskName> {
     // first, as each step writes it: it lies in the lock's line, as the engine's step count does
     book: Totals,
@@ -86,13 +76,13 @@ impl<N: DeskName> Model for Desk<N> {
 
     ghost view = { λ d. record { engine = d.engine; book = d.book; before = d.publisher.before } };
 
-    ghost invariant = { λ d. IsKept N.opening N.base N.table d.engine d.publisher d.book };
+    ghost invariant = { λ d. IsKept N.opening N.base N.log d.engine d.publisher d.book };
 }
 
 impl<N: DeskName> Desk<N> {
     /// Returns a desk of these parts, with an empty book. N names the parts.
     pub fn new(parts: Parts) -> Desk<N>
-        requires { Names N.opening N.base N.table parts }
+        requires { Names N.opening N.base N.log parts }
         ensures { result ≡ record { engine = parts.engine; book = no_totals; before = [] } }
     {
         let Parts { engine, publisher } = parts;
@@ -106,8 +96,8 @@ impl<N: DeskName> Desk<N> {
 
     /// Names the desk anew, with an empty book. M names the desk as it is.
     pub(crate) fn named_anew<M: DeskName>(self) -> Desk<M>
-        requires { Names M.opening M.base M.table
-            (record { engine = self.engine; base = N.base; table = N.table }) }
+        requires { Names M.opening M.base M.log
+            (record { engine = self.engine; base = N.base; log = N.log }) }
         ensures { result ≡ record { engine = self.engine; book = no_totals; before = self.before } }
     {
         let Desk {
@@ -157,10 +147,34 @@ impl<N: DeskName> Desk<N> {
     /// Returns one more reader, which has seen what is published, or `None` if no place is free. There are as many
     /// places as [`Parts::new`] made readers, or one if it made none. A reader that is dropped frees its place.
     pub fn reader(&mut self) -> Option<StatusReader>
-        ensures seen { IfSome result (λ r. r ≡ knows N.base N.table (published self.old)) }
+        ensures seen { IfSome result (λ r. r ≡ knows N.base N.log (published self.old)) }
         ensures same { self.new ≡ self.old }
     {
         self.publisher.reader()
+    }
+
+    /// Lets a reader learn what is published, and returns the status of a cookie that the reader then returns, like
+    /// [`Desk::status`]. The reader has seen exactly what is published, and this begins with all that the reader had
+    /// seen or learnt. N names the reader's list. The reader has learnt also if it returns `None`; that it never does so
+    /// is tested, not proved.
+    pub fn status_by_reader(&self, reader: &mut StatusReader, ch: u8, cookie: u32) -> Option<Status>
+        requires { (N.log ≡ reader.old.log) × (N.base ≡ reader.old.base) }
+        ensures status { IfSome result
+            (λ s. s ≡ status_in self.now.engine.view ch cookie) }
+        ensures seen { IfSome result (λ s. reader.new.seen ≡ published self.now) }
+        ensures later { StartsWith reader.new.seen reader.old.seen }
+        ensures learnt { IfSome result (λ s. StartsWith (published self.now) reader.old.learnt) }
+        ensures learns { StartsWith reader.new.learnt (published self.now) }
+        ensures keeps { StartsWith reader.new.learnt reader.old.learnt }
+        ensures same { (reader.new.log ≡ reader.old.log) × (reader.new.base ≡ reader.old.base) }
+    {
+        // gives the proof that the desk is sound
+        self.engine.facts();
+        let ticket: Ticket<N> = Ticket::new(self.publisher.list());
+        let ticks = ticket.len();
+        reader.learn(ticket);
+        let (status, seen) = reader.status_and_len(ch, cookie)?;
+        if seen == ticks { Some(status) } else { None }
     }
 
     /// Executes a call like [`Engine::carry_out`]. The call is one that publishes nothing: any but submit, terminate,
@@ -204,7 +218,7 @@ impl<N: DeskName> Desk<N> {
     #[inline(always)]
     pub fn step<R: Wait>(
         &mut self,
-        _rt: &R,
+        rt: &R,
         ch: u8,
         tally: &mut Tally<N>,
     ) -> Result<Turn, EngineFault>
@@ -214,7 +228,7 @@ impl<N: DeskName> Desk<N> {
         ensures before { self.new.before ≡ self.old.before }
         ensures tally { tally.new ≡ counted result tally.old }
     {
-        let answer = self.publisher.step(&mut self.engine, ch);
+        let answer = self.publisher.step(rt, &mut self.engine, ch);
         // bounds the book
         self.engine.facts();
         self.book.count(&answer);
@@ -222,36 +236,10 @@ impl<N: DeskName> Desk<N> {
         answer
     }
 
-    /// Takes at least one and at most `most` steps of a channel like [`Engine::advance`], and returns their number.
-    /// Each is a step like [`Desk::step`], counted in the book and in the tally.
-    ///
-    /// `most` is above 0, and the tally has fewer than 2^64 - `most` turns.
-    pub fn advance(&mut self, ch: u8, most: u32, tally: &mut Tally<N>) -> u32
-        requires some { 0 < most }
-        requires few { tally.old.turns + most < 2 ^ 64 }
-        ensures some { 0 < result }
-        ensures most { result ≤ most }
-        ensures number { (a : Advanced)
-            × IsAdvance self.old.engine.view ch most a self.new.engine.view
-            × (result ≡ steps_taken a) }
-        ensures steps { StepsInTurn (CountsInTally N.opening) (replicate result ch)
-            (record { tally = tally.old; desk = self.old })
-            (record { tally = tally.new; desk = self.new }) }
-    {
-        // gives the proof that the desk is sound
-        self.engine.facts();
-        let advanced = self.publisher.advance(&mut self.engine, ch, most);
-        // bounds the book
-        self.engine.facts();
-        self.book.count_all(&advanced);
-        tally.count_all(&advanced);
-        advanced.steps_taken()
-    }
-
     /// Submits a transfer like [`Engine::submit`]. The ticket is for a published list in which the cookie is given.
     pub fn submit<R: Wait>(
         &mut self,
-        _rt: &R,
+        rt: &R,
         ch: u8,
         transfer: Transfer,
     ) -> Result<Receipt<N>, SubmitFault>
@@ -263,17 +251,26 @@ impl<N: DeskName> Desk<N> {
         ensures back { IfErr result (λ f. f.transfer ≡ transfer) }
         ensures book { SameBook self.old self.new }
     {
-        let cookie = self.engine.submit(ch, transfer)?;
+        if let Err(fault) = self.engine.check_submit(ch, &transfer) {
+            return Err(SubmitFault { fault, transfer });
+        }
+        let given = Tick::new(ch, Change::Given);
+        if self.engine.make_room(ch).is_err() || !self.publisher.ready(given) {
+            let fault = EngineFault::NoMemory;
+            return Err(SubmitFault { fault, transfer });
+        }
+        let Ok(cookie) = self.engine.submit(ch, transfer) else {
+            unreachable!();
+        };
         self.engine.facts();
-        self.publisher
-            .publish(Tick::new(ch, Change::Given), &self.engine);
+        self.publisher.publish(rt, given, &self.engine);
         let ticket = Ticket::new(self.publisher.list());
         Ok(Receipt { ch, cookie, ticket })
     }
 
     /// Terminates a channel like [`Engine::terminate`]. Returns the number of aborted cookies, the last cookie given,
     /// and a ticket for a published list in which each cookie of the channel up to the last one is finished.
-    pub fn terminate<R: Wait>(&mut self, _rt: &R, ch: u8) -> Result<Closed<N>, EngineFault>
+    pub fn terminate<R: Wait>(&mut self, rt: &R, ch: u8) -> Result<Closed<N>, EngineFault>
         ensures ok { IfOk result (λ r. (r.ch ≡ ch) × CallAnswers self.old.engine.view
             (Call.Terminate ch) (Reply.Count r.count) self.new.engine.view) }
         ensures through { IfOk result (λ r.
@@ -287,24 +284,30 @@ impl<N: DeskName> Desk<N> {
         ensures same { IfErr result (λ _. self.new.book ≡ self.old.book) }
         ensures before { self.new.before ≡ self.old.before }
     {
-        let count = self.engine.terminate(ch)?;
+        self.engine.make_room(ch)?;
+        let ended = Tick::new(ch, Change::Finished(self.engine.unfinished(ch)));
+        if !self.publisher.ready(ended) {
+            return Err(EngineFault::NoMemory);
+        }
+        let Ok(count) = self.engine.terminate(ch) else {
+            unreachable!();
+        };
         // bounds the book
         self.engine.facts();
         self.book.terminated += u64::from(count);
-        self.publisher
-            .publish(Tick::new(ch, Change::Finished(count)), &self.engine);
-        let ticket = Ticket::new(self.publisher.list());
+        self.publisher.publish(rt, ended, &self.engine);
+        let last = Ticket::new(self.publisher.list());
         let through = self.engine.used(ch);
         Ok(Closed {
             ch,
             count,
             through,
-            ticket,
+            ticket: last,
         })
     }
 
     // Ends the desk, and returns its unchanged engine and its book. Readers see nothing from then on.
-    fn into_parts(self) -> (Engine, Totals)
+    fn into_parts<R: Wait>(self, rt: &R) -> (Engine, Totals)
         ensures engine { result.0 ≡ self.engine }
         ensures book { result.1 ≡ self.book }
         ensures counts { CountsSince N.opening result.0.view result.1 }
@@ -317,30 +320,30 @@ impl<N: DeskName> Desk<N> {
             book,
             of: _,
         } = self;
-        publisher.end();
+        publisher.end(rt);
         engine.facts();
         (engine, book)
     }
 
     /// Ends the desk, and returns its unchanged engine. Readers see nothing from then on.
-    pub fn close<R: Wait>(self, _rt: &R) -> Engine
+    pub fn close<R: Wait>(self, rt: &R) -> Engine
         ensures engine { result ≡ self.engine }
         ensures sound { IsSoundOf N.opening result.view }
         ensures memory { result.memory ≡ memory_of result.view }
     {
-        self.into_parts().0
+        self.into_parts(rt).0
     }
 
     /// Ends the desk if the sums of the tallies' steps and finishes are its book's, and returns its unchanged engine
     /// and its book. Otherwise it returns the desk.
-    pub fn settle<R: Wait>(self, _rt: &R, tallies: &[Tally<N>]) -> Result<(Engine, Totals), Desk<N>>
+    pub fn settle<R: Wait>(self, rt: &R, tallies: &[Tally<N>]) -> Result<(Engine, Totals), Desk<N>>
         ensures engine { IfOk result (λ r. (r.0 ≡ self.engine) × (r.1 ≡ self.book)) }
         ensures settled { IfOk result (λ r. IsSettled N.opening tallies.now r.0 r.1) }
         ensures missing { IfErr result (λ desk. Differ tallies.now desk.book) }
         ensures back { IfErr result (λ desk. desk ≡ self) }
     {
         if self.book.are_sums_of(tallies) {
-            Ok(self.into_parts())
+            Ok(self.into_parts(rt))
         } else {
             Err(self)
         }

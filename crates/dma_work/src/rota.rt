@@ -1,8 +1,8 @@
 //! The rota of a shift, which has the turns of some jobs and counts those that were taken.
 
 ghost use Rattle.std.specs.Prelude.{◌≡◌, ◌+◌, ◌<◌, IfOk, IfSome, IsNone, length, slice_set};
-ghost use Rattle.std.specs.List.{All};
-ghost use Rattle.dma_work.specs.Shift.{AreNewSeats, HasNoTurn, IsDone, TakesNext};
+ghost use Rattle.dma_work.specs.Shift.{AreNewSeats, HasNoTurn, TakesNext};
+ghost use Rattle.dma_work.specs.inner.InTurn.{HasLeft};
 
 use crate::job::Job;
 use crate::seat::Seat;
@@ -135,16 +135,14 @@ impl Seats {
         seats[worker] = seat;
     }
 
-    /// Returns the first worker that has a turn left, or `None` if all turns were taken.
-    pub fn waiting(&self) -> Option<usize>
-        ensures { IsNone result → All IsDone self.now }
+    /// Returns how many turns a worker's job has left, or 0 if there is no such worker.
+    pub fn left(&self, worker: usize) -> u64
+        ensures { HasLeft worker result self.now }
     {
-        for at in 0..self.seats.len() {
-            let seat = self.seats[at];
-            if seat.taken < seat.job.turns {
-                return Some(at);
-            }
+        if worker >= self.seats.len() {
+            return 0;
         }
-        None
+        let seat = self.seats[worker];
+        seat.job.turns - seat.taken
     }
 }

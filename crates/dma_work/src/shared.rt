@@ -9,8 +9,7 @@ ghost use Rattle.dma_work.specs.inner.Begun.{IsBegun, IsOf};
 use crate::desk::{Desk, DeskName};
 use crate::gate::Gate;
 use crate::job::Job;
-use crate::publisher::Parts;
-use crate::rows::work_in_rows;
+use crate::parts::Parts;
 use crate::worker::{Locked, Tally, Totals, work_at};
 use core::mem::replace;
 use dma_engine::{Engine, NoMemory};
@@ -30,13 +29,13 @@ pub struct Shared<N: DeskName> {
 impl<N: DeskName> Shared<N> {
     /// Returns a desk of these parts behind a lock. N names the parts.
     pub fn new(parts: Parts) -> Shared<N>
-        requires { Names N.opening N.base N.table parts }
+        requires { Names N.opening N.base N.log parts }
     {
         Shared::of(Desk::new(parts))
     }
 
-    /// Puts a desk behind a lock.
-    pub fn of(desk: Desk<N>) -> Shared<N> {
+    // Puts a desk behind a lock.
+    fn of(desk: Desk<N>) -> Shared<N> {
         Shared {
             desk: Mutex::new(desk),
         }
@@ -47,13 +46,13 @@ impl<N: DeskName> Shared<N> {
         &self.desk
     }
 
-    /// Returns a lender of the desk for one use at a time.
-    pub fn lent(&self) -> Locked<'_, Desk<N>> {
+    // Returns a lender of the desk for one use at a time.
+    fn lent(&self) -> Locked<'_, Desk<N>> {
         Locked { lock: &self.desk }
     }
 
-    /// Takes the desk out of its lock, to be settled or closed.
-    pub fn into_desk(self) -> Desk<N> {
+    // Takes the desk out of its lock, to be settled or closed.
+    fn into_desk(self) -> Desk<N> {
         let Shared { desk } = self;
         desk.into_inner()
     }
@@ -99,7 +98,7 @@ pub fn settle<N: DeskName, R: Wait>(
 }
 
 /// Takes the turns of a job like [`work_at`], and returns the tally. The worker passes the gate without the lock, and
-/// holds the lock for each step, or for as many steps in a row as the gate allows ([`Gate::most_in_a_row`]).
+/// holds the lock for each step.
 pub fn work<N: DeskName, R: Wait, G: Gate>(
     rt: &R,
     shared: &Shared<N>,
@@ -109,10 +108,7 @@ pub fn work<N: DeskName, R: Wait, G: Gate>(
 ) -> Tally<N>
     ensures { TookTurns N.opening G.passes worker job result }
 {
-    match gate.most_in_a_row() {
-        0 | 1 => work_at(rt, shared.lent(), worker, job, gate).1,
-        longest => work_in_rows(rt, shared.desk(), worker, job, gate, longest),
-    }
+    work_at(rt, shared.lent(), worker, job, gate).1
 }
 
 // What the thread of a job guarantees of the tally that it returns: a new worker with this number took the job's turns.

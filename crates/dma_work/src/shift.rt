@@ -1,9 +1,10 @@
 //! A shift: a desk that works on the jobs of a rota, at which nothing but their turns can be taken.
 
-ghost use Rattle.std.specs.Prelude.{◌≡◌, IfOk, MatchBool, OnErr, OnOk, false, length};
+ghost use Rattle.std.specs.Prelude.{◌≡◌, ◌⊎◌, IfOk, IsTrue, MatchBool, OnErr, OnOk, false, length};
 ghost use Rattle.std.specs.List.{All};
 ghost use Rattle.dma_work.specs.Desk.{Names, no_totals};
-ghost use Rattle.dma_work.specs.Shift.{AreNewSeats, IsDone, TakesATurn, TakesNoStep, TakesNoTurn, TakesStep, TookAllTurns};
+ghost use Rattle.dma_work.specs.Shift.{AreNewSeats, HasNoTurn, IsDone, LacksMemory, MayRunOut, TakesATurn, TakesNoTurn, TakesStep, TookAllTurns};
+ghost use Rattle.dma_work.specs.inner.InTurn.{GoesOn};
 
 use crate::desk::{Desk, DeskName};
 use crate::rota::{Rota, Seats};
@@ -16,7 +17,8 @@ use std::thread::{self, Scope, Threads};
 /// A desk that works on the jobs of a rota. Until the shift ends, nothing but their turns can be taken. Contracts see
 /// the desk, a seat for each job, and whether a turn was out of memory: then no further turn is taken.
 ///
-/// Its type guarantees that since N's opening view nothing was done but the turns that the seats count.
+/// Its type guarantees that since N's opening view nothing was done but the turns that the seats count, and that the
+/// next turn of some worker's job takes memory if a turn was out of memory.
 pub struct Shift<N: DeskName> {
     desk: Desk<N>,
     seats: Seats,
@@ -25,19 +27,20 @@ pub struct Shift<N: DeskName> {
 
 impl<N: DeskName> Model for Shift<N> {
     ghost use Rattle.dma_work.specs.Shift.{ShiftState};
-    ghost use Rattle.dma_work.specs.inner.InTurn.{IsInTurn};
+    ghost use Rattle.dma_work.specs.inner.InTurn.{IsAtWork};
 
     ghost Value = { ShiftState };
 
     ghost view = { λ s. record { desk = s.desk; seats = s.seats; is_starved = s.is_starved } };
 
-    ghost invariant = { λ s. IsInTurn N.opening N.jobs s.desk.engine.view s.desk.book s.seats };
+    ghost invariant = { λ s.
+        IsAtWork N.opening N.jobs s.desk.engine.view s.desk.book s.seats s.is_starved };
 }
 
-/// Takes a step of a channel. If it is out of memory, it fails and takes none.
+/// Takes a step of a channel. If the step takes memory and there is none, it fails and takes none.
 fn take_step<N: DeskName, R: Wait>(rt: &R, desk: &mut Desk<N>, ch: u8) -> Result<(), NoMemory>
     ensures ok { OnOk result (TakesStep ch desk.old desk.new) }
-    ensures err { OnErr result (TakesNoStep desk.old desk.new) }
+    ensures err { OnErr result (LacksMemory ch desk.old desk.new) }
 {
     let mut tally = Tally::new(0);
     match desk.step(rt, ch, &mut tally) {
@@ -50,8 +53,8 @@ impl<N: DeskName> Shift<N> {
     /// Names a desk anew, with an empty book, and begins to work on the jobs of a rota. N names the desk as it is, and
     /// the jobs.
     pub fn new<M: DeskName>(desk: Desk<M>, rota: Rota) -> Shift<N>
-        requires names { Names N.opening N.base N.table
-            (record { engine = desk.engine; base = M.base; table = M.table }) }
+        requires names { Names N.opening N.base N.log
+            (record { engine = desk.engine; base = M.base; log = M.log }) }
         requires jobs { N.jobs ≡ rota }
         ensures desk { result.desk
             ≡ record { engine = desk.engine; book = no_totals; before = desk.before } }
@@ -96,29 +99,40 @@ impl<N: DeskName> Shift<N> {
         }
     }
 
-    // Takes the turns that are left. Fails if one is out of memory, or one was. That it fails only then is said by no
-    // clause.
-    fn finish<R: Wait>(&mut self, rt: &R) -> Result<(), NoMemory>
-        ensures { OnOk result (All IsDone self.new.seats) }
+    // Takes the turns that are left of a worker's job, unless one is out of memory, or one was.
+    fn finish_job<R: Wait>(&mut self, rt: &R, worker: usize)
+        ensures over { IsTrue self.new.is_starved ⊎ HasNoTurn worker self.new.seats }
+        ensures goes_on { GoesOn self.old self.new }
     {
-        for _ in rt.forever() {
-            if self.is_starved {
-                return Err(NoMemory);
+        let left = self.seats.left(worker);
+        for _ in 0..left {
+            if !self.turn(rt, worker) {
+                return;
             }
-            let Some(worker) = self.seats.waiting() else {
-                return Ok(());
-            };
-            self.turn(rt, worker);
         }
-        unreachable!()
+    }
+
+    // Takes the turns that are left. Fails if one is out of memory, or one was.
+    fn finish<R: Wait>(&mut self, rt: &R) -> Result<(), NoMemory>
+        ensures ok { OnOk result (All IsDone self.new.seats) }
+        ensures err { OnErr result (IsTrue self.new.is_starved) }
+    {
+        for worker in 0..self.workers() {
+            self.finish_job(rt, worker);
+        }
+        if self.is_starved {
+            return Err(NoMemory);
+        }
+        Ok(())
     }
 
     /// Takes the turns that are left, and returns the desk. Then all turns of the jobs were taken, one after another in
     /// some order, and nothing else was done since N's opening view. The book has their sums. If a turn is out of
     /// memory, or one was, it closes the desk and fails.
     pub fn end<R: Wait>(mut self, rt: &R) -> Result<Desk<N>, NoMemory>
-        ensures { IfOk result (λ desk.
+        ensures ok { IfOk result (λ desk.
             TookAllTurns N.opening N.jobs desk.engine.view desk.book) }
+        ensures err { OnErr result (MayRunOut N.opening N.jobs) }
     {
         let finished = self.finish(rt);
         let Shift {
@@ -144,9 +158,9 @@ struct Crew<'a, N: DeskName, R> {
 }
 
 impl<'a, N: DeskName + Send + Sync, R: Threads + Wait + Sync> Crew<'a, N, R> {
-    // Takes the turns of a worker's job, and holds the lock for each of them.
+    // Takes the turns of a worker's job, at most 2^64 - 1, and holds the lock for each of them.
     fn work(self, worker: usize) {
-        for _ in self.rt.forever() {
+        for _ in 0..u64::MAX {
             let mut shift = self.shift.lock(self.rt);
             let is_taken = shift.turn(self.rt, worker);
             MutexGuard::unlock(shift);
@@ -154,7 +168,6 @@ impl<'a, N: DeskName + Send + Sync, R: Threads + Wait + Sync> Crew<'a, N, R> {
                 return;
             }
         }
-        unreachable!()
     }
 
     // Starts a thread for a worker, if one can be started.
@@ -187,7 +200,8 @@ pub fn run_shift<N: DeskName + Send + Sync, R: Threads + Wait + Sync>(
     rt: &R,
     shift: Shift<N>,
 ) -> Result<Desk<N>, NoMemory>
-    ensures { IfOk result (λ desk. TookAllTurns N.opening N.jobs desk.engine.view desk.book) }
+    ensures ok { IfOk result (λ desk. TookAllTurns N.opening N.jobs desk.engine.view desk.book) }
+    ensures err { OnErr result (MayRunOut N.opening N.jobs) }
 {
     let workers = shift.workers();
     let shared = Mutex::new(shift);

@@ -1,10 +1,9 @@
 //! Workers: the tallies of their steps, the turns of their jobs, and the worker that borrows a desk for each step.
 
-ghost use Rattle.std.specs.Prelude.{◌≡◌, ◌+◌, ◌<◌, ◌≤◌, ◌^◌, IsTrue, false};
-ghost use Rattle.dma_engine.specs.Advance.{finishes_counted, steps_counted, steps_taken};
+ghost use Rattle.std.specs.Prelude.{◌≡◌, ◌+◌, ◌<◌, ◌^◌, IsTrue, false};
 ghost use Rattle.dma_engine.specs.Interleaved.{rotation};
 ghost use Rattle.dma_engine.specs.Turn.{finishes_in, steps_in};
-ghost use Rattle.dma_work.specs.Desk.{AddUp, Differ, advanced_book, counted, counted_all, new_tally, stepped_book};
+ghost use Rattle.dma_work.specs.Desk.{AddUp, Differ, counted, new_tally, stepped_book};
 ghost use Rattle.dma_work.specs.Rotation.{StepsInTurn};
 ghost use Rattle.dma_work.specs.Tallies.{TookTurnsAt};
 
@@ -12,7 +11,7 @@ use crate::desk::{Desk, DeskName};
 use crate::gate::Gate;
 use crate::job::Job;
 use crate::lock::locked;
-use dma_engine::{Advanced, EngineFault, Turn};
+use dma_engine::{EngineFault, Turn};
 use std::marker::{Model, PhantomData};
 use std::sync::{Mutex, MutexGuard, Wait};
 
@@ -75,16 +74,6 @@ impl<N: DeskName> Tally<N> {
         self.counts.count(answer);
     }
 
-    /// Counts the turns of consecutive steps.
-    pub(crate) fn count_all(&mut self, advanced: &Advanced)
-        requires number { steps_taken advanced.now ≤ u32.MAX }
-        requires few { self.old.turns + steps_taken advanced.now < 2 ^ 64 }
-        ensures { self.new ≡ counted_all advanced.now self.old }
-    {
-        self.turns += u64::from(advanced.steps_taken());
-        self.counts.count_all(advanced);
-    }
-
     /// Returns the worker's number.
     pub fn worker(&self) -> u32
         ensures { result ≡ self.now.worker }
@@ -128,18 +117,6 @@ impl Totals {
                 self.finished += 1;
             }
             _ => {}
-        }
-    }
-
-    /// Counts what consecutive steps add: a step for each that moved, and what the last one adds.
-    pub(crate) fn count_all(&mut self, advanced: &Advanced)
-        requires steps { self.old.steps + steps_counted advanced.now < 2 ^ 64 }
-        requires finished { self.old.finished + finishes_counted advanced.now < 2 ^ 64 }
-        ensures { self.new ≡ advanced_book self.old advanced.now }
-    {
-        self.steps += u64::from(advanced.moved);
-        if let Some(last) = &advanced.last {
-            self.count(last);
         }
     }
 
@@ -233,8 +210,8 @@ pub trait Lender<D> {
 
 /// Lends the value behind a lock, which it holds while the value is used.
 #[derive_where(Clone, Copy)]
-pub struct Locked<'a, D> {
-    pub(crate) lock: &'a Mutex<D>,
+pub(crate) struct Locked<'a, D> {
+    pub lock: &'a Mutex<D>,
 }
 
 impl<'a, D> Lender<D> for Locked<'a, D> {

@@ -62,8 +62,8 @@ fn go<M: DeskName, N: DeskName + Send + Sync, R: Threads + Wait + Sync>(
     rota: Rota,
     out: &mut Vec<u8>,
 ) -> Result<Engine, AllocError>
-    requires names { Names N.opening N.base N.table
-        (record { engine = desk.engine; base = M.base; table = M.table }) }
+    requires names { Names N.opening N.base N.log
+        (record { engine = desk.engine; base = M.base; log = M.log }) }
     requires jobs { N.jobs ≡ rota }
     ensures ok { IfOk result (λ engine. PrintsTotals desk.engine.view rota engine.view
         out.old.items out.new.items) }
@@ -93,8 +93,8 @@ fn raced<M: DeskName, R: Threads + Wait + Sync>(
     rota: Rota,
     out: &mut Vec<u8>,
 ) -> Result<Engine, AllocError>
-    requires names { Names M.opening M.base M.table parts }
-    requires follows { (M.table ≡ reader.table) × (M.base ≡ reader.base) }
+    requires names { Names M.opening M.base M.log parts }
+    requires follows { (M.log ≡ reader.log) × (M.base ≡ reader.base) }
     requires early { All IsEarly lines }
     ensures ok { IfOk result (λ engine. PrintsGo parts.engine.view lines rota engine.view
         out.old.items out.new.items) }
@@ -118,7 +118,7 @@ fn parts_of<R: Wait>(
     requires { IsWithin script.now }
     ensures { IfOk result (λ made. IfSome made
         (λ p. (p.0.engine.view ≡ new_view script.now.size script.now.channels)
-        × (p.0.table ≡ p.1.table) × (p.0.base ≡ p.1.base))) }
+        × (p.0.log ≡ p.1.log) × (p.0.base ≡ p.1.base))) }
 {
     let engine = new_engine(alloc, script)?;
     match Parts::new(rt, alloc, engine, 1) {

@@ -2,4 +2,4 @@ use Rattle.std.specs.Prelude.{[]}
 use Rattle.desk_bench.proofs.measure.Given as goal
 
 abbrev pub ghosts-time_desk : goal.ghosts-time_desk
-ghosts-time_desk g a = record { base = a.parts.base; table = a.parts.table; opening = a.parts.engine.view; jobs = [] }
+ghosts-time_desk g a = record { base = a.parts.base; log = a.parts.log; opening = a.parts.engine.view; jobs = [] }

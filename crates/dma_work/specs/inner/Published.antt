@@ -1,18 +1,60 @@
--- The published list of ticks, the table at which it is read, and what readers know of it.
-use Rattle.std.specs.Prelude.{ℕ, ◌≡◌, ◌+◌, ◌*◌, ◌/◌, ◌%◌, ◌<◌, true, if◌then◌else◌, nat_lt, false, List, [], ◌∷◌, ◌++◌, length, slice_index}
-use Rattle.atomic_table.specs.{Seated.TableId, Table.Me, Table.State, Table.Step, declared.shared.Seat.Seat}
-use Rattle.dma_engine.specs.{Ticks.Board, Ticks.Counts, Ticks.Tick, Ticks.counts, Ticks.ticks_of, View.View}
-use Rattle.dma_work.specs.{declared.board.Sight.Sight, Known.Known, Laws.AreCounts, Ticks.StartsWith, Ticks.board_from}
+-- The log of the published ticks, the lists that are published of it, and what readers have seen.
+use Rattle.std.specs.Prelude.{ℕ, ◌≡◌, ◌+◌, ◌*◌, ◌<◌, ◌≤◌, Bool, true, Option, Some, None, List, [], ◌∷◌, ◌++◌, length, slice_index_or, IfSome}
+use Rattle.logbook.specs.Pages.{Book, Cell, Named, Nib, Step, View as LogView, cell, may_make, may_write, nib}
+use Rattle.dma_engine.specs.{Ticks.Board, Ticks.Tick, Ticks.ticks_of, View.View}
+use Rattle.dma_work.specs.{Known.Known, Known.knows, Ticks.StartsWith}
 use mathlib.Core.Option.{some}
 use lib.ListN.{get_elem?}
 
+-- ---- the log
+
+-- A snapshot of a log: the log, and the ticks that it had.
+pub record SnapshotState : Type 0 where
+  pub log : Book
+  pub ticks : List Tick
+
+-- A log: all of its ticks, and whether it has room for one more.
+pub record LogState : Type 0 where
+  pub all : SnapshotState
+  pub has_room : Bool
+
+-- the snapshot with more ticks
+abbrev pub snapshot_and : SnapshotState → List Tick → SnapshotState
+snapshot_and s more = record s { ticks = s.ticks ++ more }
+
+-- The rule of a log. Its cells are a count, one that stays 0, one for each tick, and perhaps a spare one for the next
+-- tick. All but the spare one are at home. The count is twice the number of ticks, and 1 more if there is a spare cell.
+pub record IsCounted (cells : List Cell) (ticks : List Tick) : Type 0 where
+  pub spare : ℕ
+  pub few : spare ≤ 1
+  pub long : length cells ≡ length ticks + 2 + spare
+  pub count : cell cells 0 ≡ (2 * length ticks + spare, true)
+  pub homes : (k : ℕ) → k < length ticks + 2 → (cell cells k).1 ≡ true
+
+-- the count of a log
+abbrev pub head_of : Book → Named
+head_of b = record { tracked = true; key = 0; book = b }
+
+-- The pen of the spare cell that follows these ticks. There is one such pen, and so nobody else adds a tick.
+abbrev pub spare_after : List Tick → Nib
+spare_after ticks = nib may_write (length ticks + 2) 0
+
+-- What an exchange shows that adds a spare cell: if it found the count that it expected, it has the right to make the
+-- cell's word.
+abbrev pub MakesRoom : Step Tick → LogView Tick ℕ → ℕ → LogView Tick ℕ → Type 0
+MakesRoom s v found w = found ≡ s.old → w.1.0 ≡ nib may_make (length v.0 + 2) 0
+
+-- What the exchange with the pen of the spare cell shows: the tick follows all that was seen before.
+abbrev pub Adds : Step Tick → LogView Tick ℕ → ℕ → LogView Tick ℕ → Type 0
+Adds s v found w = w.0 ≡ v.0 ++ s.ask ∷ []
+
 -- ---- the published list
 
--- The published list: the counts that it begins with, its ticks, and the table at which it is read.
+-- The published list: the counts that it begins with, its ticks, and the log that has them.
 pub record PublishedList : Type 0 where
   pub base : Board
   pub ticks : List Tick
-  pub table : TableId
+  pub log : Book
 
 -- the list with more ticks
 abbrev pub list_and : PublishedList → List Tick → PublishedList
@@ -22,112 +64,72 @@ list_and b more = record b { ticks = b.ticks ++ more }
 abbrev pub list_with : PublishedList → Tick → PublishedList
 list_with b t = list_and b (t ∷ [])
 
--- A publisher: the published list, and the ticks that were published before those of the engine's history.
+-- a snapshot of the list's log that has the list's ticks
+abbrev pub snapshot_of : PublishedList → SnapshotState
+snapshot_of b = record { log = b.log; ticks = b.ticks }
+
+-- A later list begins with the earlier one.
+pub record IsLaterList (old new : PublishedList) : Type 0 where
+  pub base : new.base ≡ old.base
+  pub log : new.log ≡ old.log
+  pub ticks : StartsWith new.ticks old.ticks
+
+-- One list is to be published next, and it is a later one.
+abbrev pub IsNext : PublishedList → List PublishedList → Type 0
+IsNext shown pending = (next : PublishedList) × (pending ≡ next ∷ []) × IsLaterList shown next
+
+-- A publisher: the published list, the lists that are to be published next, whether the log has room for one more tick,
+-- and the ticks that were published before those of the engine's history.
 pub record PublisherState : Type 0 where
   pub shown : PublishedList
+  pub pending : List PublishedList
+  pub has_room : Bool
   pub before : List Tick
+
+-- Everything has grown that the publication of this tick needs: the list that has it is next, and the log has room.
+abbrev pub IsReady : PublisherState → Tick → Type 0
+IsReady p t = (p.pending ≡ list_with p.shown t ∷ []) × (p.has_room ≡ true)
 
 -- The engine has acted: the published ticks followed by this one are `before` followed by the ticks of the engine's
 -- history.
 abbrev pub HasActed : PublisherState → View → Tick → Type 0
 HasActed p v t = p.before ++ ticks_of v.history ≡ p.shown.ticks ++ t ∷ []
 
--- ---- the rule of the table
+-- These ticks were published, and none is pending.
+pub record Publishes (old : PublisherState) (more : List Tick) (new : PublisherState) : Type 0 where
+  pub shown : new.shown ≡ list_and old.shown more
+  pub pending : new.pending ≡ []
+  pub before : new.before ≡ old.before
 
--- the counts of a channel, in a word
-abbrev pub packed : Counts → ℕ
-packed c = c.used + 4294967296 * c.finished
+-- ---- the rule of what is published: it only grows, and begins with all that anyone has seen
 
--- the counts that a word has
-abbrev pub unpacked : ℕ → Counts
-unpacked n = record { used = n % 4294967296; finished = n / 4294967296 }
+-- The list that the writer or a reader has seen, if any, is an earlier state of this one.
+abbrev pub IsSeen : PublishedList → Option PublishedList → Type 0
+IsSeen b view = IfSome view (λ seen. IsLaterList seen b)
 
--- What a seat knows: the counts with which the list begins, and lists that are beginnings of the published one. The
--- writer knows all of it, and only the seat that the table was made with may be the writer's.
-pub record IsKnown (base : Board) (ticks : List Tick) (seat : ℕ) (v : Sight) : Type 0 where
-  pub base_is : v.base ≡ base
-  pub seen : StartsWith ticks v.seen
-  pub learnt : StartsWith ticks v.learnt
-  pub offered : StartsWith ticks v.offered
-  pub writer : v.writes ≡ true → (seat ≡ 0) × (v.seen ≡ ticks)
+-- Each list that was seen is an earlier state of this one.
+abbrev pub Keeps : PublishedList → List (Option PublishedList) → Type 0
+Keeps b views = (seat : ℕ) (view : Option PublishedList) → get_elem? views seat ≡ some view → IsSeen b view
 
--- The words of the channels 0 to 7 have the counts that the published list adds up to.
-abbrev pub AreWords : Board → List ℕ → Type 0
-AreWords board words = (ch : ℕ) → ch < 8 → slice_index words ch ≡ packed (counts board ch)
+-- Whoever reads or publishes a list has then seen it, and the list seen before is an earlier state of it.
+abbrev pub Sees : Option PublishedList → PublishedList → PublishedList → Option PublishedList → Type 0
+Sees before old new after = IsSeen new before × (after ≡ Some new)
 
--- The rule. There is a published list: the words have the counts that it adds up to, and each seat knows beginnings of
--- it. Its base has the counts of eight channels, which are numbers of 32 bits.
-pub record Keeps (base : Board) (s : State Tick Sight) : Type 0 where
-  pub ticks : List Tick
-  pub known : (seat : ℕ) (v : Sight) → get_elem? s.views seat ≡ some v → IsKnown base ticks seat v
-  pub eight : length base ≡ 8
-  pub small : AreCounts base
-  pub many : length s.words ≡ 10
-  pub words : AreWords (board_from base ticks) s.words
+-- ---- readers
 
--- what the writer knows at first
-abbrev pub first_sight : Board → Sight
-first_sight base = record { writes = true; base = base; seen = []; learnt = []; offered = [] }
+-- the list that was seen, or an empty one
+abbrev pub seen_list : Option PublishedList → PublishedList
+seen_list (Some b) = b
+seen_list None = record { base = []; ticks = []; log = record { number = 0; log_name = 0; cells_name = 0 } }
 
--- ---- steps at the table
+-- what a reader knows that has seen this list and learnt this snapshot
+abbrev pub known_by : PublishedList → SnapshotState → Known
+known_by b learnt = record { base = b.base; log = b.log; seen = b.ticks; learnt = learnt.ticks }
 
--- a seat, as a step at the table sees it
-abbrev Sat : Type 0
-Sat = Me Tick Sight
+-- what a reader knows that has seen and learnt exactly what a publisher has published
+abbrev pub known_at : PublisherState → Known
+known_at p = knows p.shown.base p.shown.log p.shown.ticks
 
--- A word was read. If it is a channel's, it has the counts that the list adds up to that this seat has seen.
-pub record WasLooked (ch : ℕ) (v : Sight) (n : ℕ) : Type 0 where
-  pub eight : length (board_from v.base v.seen) ≡ 8
-  pub small : AreCounts (board_from v.base v.seen)
-  pub word : ch < 8 → n ≡ packed (counts (board_from v.base v.seen) ch)
-
--- A tick was added to the list.
-abbrev pub adds : Step Tick → Sat → ℕ → Sat → Type 0
-adds st m n m' = (t : Tick) → st.said ≡ some t → m' ≡ (record (m.0) { seen = m.0.seen ++ t ∷ [] }, m.1)
-
--- A word was read by a seat, which has then seen a list that begins with all that it has seen or learnt. The word has
--- the counts of that list. The writer knows what it knew.
-pub record WasRead (ch : ℕ) (old : Sight) (n : ℕ) (new : Sight) : Type 0 where
-  pub same : new ≡ record old { seen = new.seen }
-  pub later : StartsWith new.seen old.seen
-  pub covers : StartsWith new.seen old.learnt
-  pub read : WasLooked ch new n
-  pub writer : old.writes ≡ true → new ≡ old
-
--- A word was read.
-abbrev pub reads : Step Tick → Sat → ℕ → Sat → Type 0
-reads st m n m' = WasRead st.word m.0 n m'.0 × (m'.1 ≡ m.1)
-
--- the longer of two lists
-abbrev pub longer : List Tick → List Tick → List Tick
-longer xs ys = if nat_lt (length xs) (length ys) then ys else xs
-
--- A reader has learnt the longer one of two lists: the one that it had learnt and the one that it was offered. It
--- begins with both.
-pub record WasLearnt (old new : Sight) : Type 0 where
-  pub is : new ≡ record old { learnt = longer old.learnt old.offered }
-  pub before : StartsWith (longer old.learnt old.offered) old.learnt
-  pub ticket : StartsWith (longer old.learnt old.offered) old.offered
-
--- A reader has learnt the list that it was offered, or had learnt a longer one. At a step that offers none, nothing
--- changes.
-abbrev pub learns : Step Tick → Sat → ℕ → Sat → Type 0
-learns st m n m' = WasLearnt m.0 m'.0 × (m'.1 ≡ m.1)
-
--- ---- seats
-
--- what a new reader or a ticket knows of what the writer knows
-abbrev pub new_sight : Sight → Sight
-new_sight v = record v { writes = false; learnt = v.seen; offered = [] }
-
--- what a reader knows after it was offered a list
-abbrev pub offered : Sight → List Tick → Sight
-offered v list = record v { offered = list }
-
--- the list that a seat has seen
-abbrev pub list_at : Seat Tick Sight → PublishedList
-list_at s = record { base = s.me.0.base; ticks = s.me.0.seen; table = s.table_id }
-
--- what a reader on this seat knows
-abbrev pub known_at : Seat Tick Sight → Known
-known_at s = record { base = s.me.0.base; table = s.table_id; seen = s.me.0.seen; learnt = s.me.0.learnt }
+-- The first places have readers that know this.
+abbrev pub AreTaken : Known → ℕ → List (Option Known) → Type 0
+AreTaken known count places = (place : ℕ) → place < count → slice_index_or places place None ≡ Some known

@@ -1,7 +1,7 @@
 -- Ticks as the code stores them.
 use Rattle.std.specs.Prelude.{ℕ, Option, Some, None, List, [], ◌∷◌}
 use Rattle.dma_work.specs.{declared.tick.Change.Change, declared.tick.Change.TheVariants.Given, declared.tick.Change.TheVariants.Finished}
-use Rattle.dma_engine.specs.Ticks.{Counts, Tick, Submitted, Finished as TickFinished, added_up}
+use Rattle.dma_engine.specs.Ticks.{Tick, Submitted, Finished as TickFinished}
 
 -- the tick of a change on a channel
 abbrev pub tick_of : ℕ → Change → Tick
@@ -22,8 +22,3 @@ change_of (TickFinished ch count) = Finished count
 abbrev pub ticks_of_option : Option Tick → List Tick
 ticks_of_option (Some t) = t ∷ []
 ticks_of_option None = []
-
--- the counts of a channel after a change
-abbrev pub changed : Counts → Change → Counts
-changed c Given = record c { used = added_up c.used 1 }
-changed c (Finished count) = record c { finished = added_up c.finished count }

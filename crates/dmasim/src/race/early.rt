@@ -45,10 +45,10 @@ fn answer_submit<N: DeskName, R: Wait>(
     words: TransferLine,
     out: &mut Vec<u8>,
 ) -> Result<(), AllocError>
-    requires follows { (N.table ≡ reader.old.table) × (N.base ≡ reader.old.base) }
+    requires follows { (N.log ≡ reader.old.log) × (N.base ≡ reader.old.base) }
     ensures line { RunsLine (line_answer desk.old.engine.view (Statement.Submit ch words))
         desk.new.engine.view result out.old.items out.new.items }
-    ensures follows { (N.table ≡ reader.new.table) × (N.base ≡ reader.new.base) }
+    ensures follows { (N.log ≡ reader.new.log) × (N.base ≡ reader.new.base) }
 {
     let transfer = match transfer_of(words) {
         Ok(transfer) => transfer,
@@ -71,10 +71,10 @@ fn answer_terminate<N: DeskName, R: Wait>(
     ch: u8,
     out: &mut Vec<u8>,
 ) -> Result<(), AllocError>
-    requires follows { (N.table ≡ reader.old.table) × (N.base ≡ reader.old.base) }
+    requires follows { (N.log ≡ reader.old.log) × (N.base ≡ reader.old.base) }
     ensures line { RunsLine (line_answer desk.old.engine.view (Statement.Call (Call.Terminate ch)))
         desk.new.engine.view result out.old.items out.new.items }
-    ensures follows { (N.table ≡ reader.new.table) × (N.base ≡ reader.new.base) }
+    ensures follows { (N.log ≡ reader.new.log) × (N.base ≡ reader.new.base) }
 {
     match desk.terminate(rt, ch) {
         Ok(closed) => {
@@ -85,32 +85,26 @@ fn answer_terminate<N: DeskName, R: Wait>(
     }
 }
 
-/// Executes `status CH COOKIE`, which asks the reader. Nothing publishes meanwhile, so a reader that answers has the
-/// status of the desk. No contract says so: with another one this would wait forever.
-fn answer_status<N: DeskName, R: Wait>(
-    rt: &R,
+/// Executes `status CH COOKIE`, which asks the reader.
+fn answer_status<N: DeskName>(
     desk: &Desk<N>,
     reader: &mut StatusReader,
     ch: u8,
     cookie: u32,
     out: &mut Vec<u8>,
 ) -> Result<(), AllocError>
+    requires follows { (N.log ≡ reader.old.log) × (N.base ≡ reader.old.base) }
     ensures line { OnOk result (PrintsLine (EarlyPrints desk.now.engine.view
         (Statement.Call (Call.Status ch cookie))) desk.now.engine.view
         out.old.items out.new.items) }
     ensures err { OnErr result (out.new.items ≡ out.old.items) }
-    ensures same { (reader.new.table ≡ reader.old.table) × (reader.new.base ≡ reader.old.base) }
+    ensures follows { (N.log ≡ reader.new.log) × (N.base ≡ reader.new.base) }
 {
-    let status = desk.status(ch, cookie);
-    match reader.status(ch, cookie) {
+    match desk.status_by_reader(reader, ch, cookie) {
         None => print_line(out, &"status none"),
-        Some(found) if found == status => {
+        Some(status) => {
             let call = Call::Status { ch, cookie };
             print_line(out, &Shown((&call, &Reply::State(status))))
-        }
-        Some(_) => {
-            for _ in rt.forever() {}
-            unreachable!()
         }
     }
 }
@@ -131,7 +125,7 @@ impl<N: DeskName, R: Wait> Interpreter for LinesOnDesk<'_, N, R> {
 
     ghost takes = { IsEarly };
 
-    ghost is_ready = { λ lines. (N.table ≡ lines.reader.table) × (N.base ≡ lines.reader.base) };
+    ghost is_ready = { λ lines. (N.log ≡ lines.reader.log) × (N.base ≡ lines.reader.base) };
 
     ghost acts = { λ found line group left.
         EarlyPrints found.desk.engine.view line group left.desk.engine.view };
@@ -150,7 +144,7 @@ impl<N: DeskName, R: Wait> Interpreter for LinesOnDesk<'_, N, R> {
                 answer_terminate(self.rt, &mut self.desk, &mut self.reader, ch, out)
             }
             Statement::Call(Call::Status { ch, cookie }) => {
-                answer_status(self.rt, &self.desk, &mut self.reader, ch, cookie, out)
+                answer_status(&self.desk, &mut self.reader, ch, cookie, out)
             }
             Statement::Call(call) => answer_quiet(&mut self.desk, call, out),
             _ => unreachable!(),
@@ -167,7 +161,7 @@ pub fn run_early_statements<N: DeskName, R: Wait>(
     lines: Statements,
     out: &mut Vec<u8>,
 ) -> (Desk<N>, Result<(), AllocError>)
-    requires follows { (N.table ≡ reader.table) × (N.base ≡ reader.base) }
+    requires follows { (N.log ≡ reader.log) × (N.base ≡ reader.base) }
     requires early { All IsEarly lines }
     ensures ok { OnOk result.1 (PrintsLines EarlyPrints desk.engine.view lines
         result.0.engine.view out.old.items out.new.items) }

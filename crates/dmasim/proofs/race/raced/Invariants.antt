@@ -2,4 +2,4 @@
 use Rattle.dmasim.proofs.race.raced.Given as goal
 
 abbrev pub ghosts-go : goal.ghosts-go
-ghosts-go g a = record { base = g.M.DeskName.base; table = g.M.DeskName.table; opening = a.desk.engine.view; jobs = a.rota }
+ghosts-go g a = record { base = g.M.DeskName.base; log = g.M.DeskName.log; opening = a.desk.engine.view; jobs = a.rota }

@@ -3,4 +3,4 @@ use Rattle.std.specs.Prelude.{[]}
 use Rattle.dmasim.proofs.race.run_race.Given as goal
 
 abbrev pub ghosts-raced : goal.ghosts-raced
-ghosts-raced g a = record { base = a.parts.base; table = a.parts.table; opening = a.parts.engine.view; jobs = [] }
+ghosts-raced g a = record { base = a.parts.base; log = a.parts.log; opening = a.parts.engine.view; jobs = [] }

@@ -9,8 +9,8 @@ invariant_of-result g c =
     let inside = c.self.inside in
     let M = g.M.DeskName in
     let base = g.N.DeskName.base in
-    let table = g.N.DeskName.table in
+    let log = g.N.DeskName.log in
     let same = ap (λ (d : DeskState). d.engine) (sym c.self.view_is) in
     let none = c.default-book.ensures in
-    let names = subst (λ (e : EngineState). Names M.opening M.base M.table (record { engine = e; base = base; table = table })) same c.requires in
-    kept_anew _ _ base M.base table M.table inside.engine inside.publisher inside.book c.default-book.result c.self.invariant names (none.0, none.1.0, none.1.1)
+    let names = subst (λ (e : EngineState). Names M.opening M.base M.log (record { engine = e; base = base; log = log })) same c.requires in
+    kept_anew _ _ base M.base log M.log inside.engine inside.publisher inside.book c.default-book.result c.self.invariant names (none.0, none.1.0, none.1.1)

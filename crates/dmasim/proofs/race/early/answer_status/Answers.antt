@@ -10,7 +10,7 @@ returns-in-Some-clause-line g c =
     let v = c.args.desk.now.engine.view in
     let call = calls.Status c.args.ch c.args.cookie in
     on_ok_weaker c.print_line-in-Some.result
-    (λ text. record { group = _; acted = inl (ap {B = Answered} (λ s. (call_line call (State s) ∷ [], v)) (sym c.status-status.ensures)); text = text })
+    (λ text. record { group = _; acted = inl (ap {B = Answered} (λ s. (call_line call (State s) ∷ [], v)) (sym c.in-Some.ensures.status)); text = text })
     c.print_line-in-Some.ensures.ok
 
 pub returns-in-None-clause-line : goal.returns-in-None-clause-line
