@@ -1,6 +1,6 @@
 pub mod RunLemmas
+pub mod ListLemmas
 pub mod Served
-pub mod Advances
 pub mod StepLemmas
 pub mod CopyLemmas
 pub mod CopyEnds

@@ -1,5 +1,5 @@
 -- What the lines of a script print, and the view after them.
-use Rattle.std.proofs.Common.{◌≡◌, ◌≢◌, ℕ, ◌<◌, ◌+◌, false, codes, List, [], ◌∷◌, ◌++◌, length, Option, Some, None, refl, ap, sym, ◌∙◌, take, drop}
+use Rattle.std.proofs.Common.{◌≡◌, ◌≢◌, ℕ, ◌<◌, ◌+◌, true, false, codes, List, [], ◌∷◌, ◌++◌, length, Option, Some, None, refl, ap, sym, ◌∙◌, take, drop}
 use Rattle.std.proofs.Common.{suc, arith, append_assoc}
 use Rattle.std.proofs.{Math.Seq.take-append-add, lemmas.List.append-nil, lemmas.List.length-append, lemmas.Result.on_err_weaker, lemmas.Result.on_ok_weaker}
 use Rattle.std.specs.Prelude.{IsErr, OnErr, OnOk, Result}
@@ -13,9 +13,9 @@ use Rattle.dma_io.specs.Command.{Answers, AppendsGroups, Printed, printed_text, 
 use Rattle.dma_script.specs.{Interpreted.ActsInTurn, Interpreted.PrintsLines, Interpreted.StopsAtALine, declared.statements.Statement.Statement}
 use Rattle.dma_text.specs.Digits.{hex_digits, spaced_bytes}
 use Rattle.dma_commands.specs.Printed.{call_line, fault_text, refused_line, reply_text, transfer_fault_name}
-use Rattle.dma_commands.specs.Run.{Answered, call_answer, copied, is_in_use, line_answer, lines_answered, most_copy_steps, stepped_to_end}
+use Rattle.dma_commands.specs.Run.{Answered, call_answer, copied, is_in_use, is_refused, most_copy_steps, stepped_to_end}
 use Rattle.dma_commands.specs.Run.{unless_invalid}
-use Rattle.dma_commands.specs.{Left.lines_left, inner.RunSteps.RunsLine, inner.RunSteps.read_at}
+use Rattle.dma_commands.specs.{Left.lines_left, inner.RunSteps.RunsLine}
 use Rattle.dma_script.proofs.InterpretedLemmas.{printed_text_append}
 use Rattle.dma_commands.proofs.Served.{refused_served}
 use Rattle.dma_mem.specs.declared.call.Call.TheVariants.{Read, Submit as SubmitCall, Issue as IssueCall}
@@ -46,77 +46,20 @@ pub fit_runs : {A E : Type 0} (answered : Descriptor → Answered) (v w : View) 
     → refusal_of u ≡ None → RunsLine (answered u) w result out out' → RunsLine (unless_invalid (refusal_of t) v (answered t)) w result out out'
 fit_runs answered v w t u result out out' is fit runs = rw (← is, fit) runs
 
--- ---- reads
-
--- the entry of an answered read in the history
-kept_read : (v w : View) (addr : ℕ) (b bytes : List ℕ) (fault : Option EngineFault)
-    → (Bytes b, w) ≡ unless fault v (Bytes bytes, with_entry v (ReadBack addr bytes)) → read_at w.history (length v.history) ≡ b
-kept_read v w addr b bytes fault h = grind (arith, slice_get_push_last)
-
--- a read, whose bytes are printed from the history
-pub read_runs : {A E : Type 0} (v w : View) (addr n : ℕ) (bytes : List ℕ) (result : Result A E) (out out' : List ℕ) → (Bytes bytes, w) ≡ answer v (Read addr n)
-    → OnOk result (out' ≡ out ++ text_of ((codes "read 0x" ++ hex_digits addr ++ spaced_bytes (read_at w.history (length v.history))) ∷ []))
-    → OnErr result (out' ≡ out) → RunsLine (call_answer v (Read addr n)) w result out out'
-read_runs v w addr n bytes result out out' is prints kept =
-    let same = kept_read v w addr bytes (take n (drop addr (object_of v).image)) (read_fault v addr n) is in
-    call_runs v w (Read addr n) (Bytes bytes) result out out' is (on_ok_weaker result (λ _ e. cc) prints)
-    (on_ok_weaker result (λ p. p ∙ ap (λ (b : List ℕ). out ++ text_of ((codes "read 0x" ++ hex_digits addr ++ spaced_bytes b) ∷ [])) same) prints) kept
-
 -- ---- copies
 
 module _ {A E : Type 0} (start : List ℕ) (v : View) (t : Descriptor) (free : is_in_use v ≡ false) where
   -- the submit of a copy was refused
-  pub refused_copy_runs : (w : View) (fault : EngineFault) (result : Result A E) (out out' : List ℕ) → CallAnswers v (SubmitCall 0 t) (Refused fault) w
-      → OnOk result (fault ≢ NoMemory) → OnOk result (out' ≡ out ++ text_of (refused_line (fault_text fault) ∷ [])) → OnErr result (out' ≡ out)
+  pub refused_copy_runs : (w : View) (submitted : Reply) (result : Result A E) (out out' : List ℕ) → (submitted, w) ≡ answer v (SubmitCall 0 t)
+      → is_refused submitted ≡ true → OnOk result (out' ≡ out ++ text_of (reply_text submitted ∷ [])) → OnErr result (out' ≡ out)
       → RunsLine (copied start v t) w result out out'
-  refused_copy_runs h h2 h3 h4 h5 = grind (arith, answer_unless_no_memory, refused_served, printed_runs)
+  refused_copy_runs h h2 h3 h4 = grind (arith, printed_runs, on_ok_weaker)
 
   -- a copy was submitted, issued and stepped through
-  pub copy_runs : (u x w : View) (cookie : ℕ) (issued last : Reply) (result : Result A E) (out out' : List ℕ) → (Cookie cookie, u) ≡ answer v (SubmitCall 0 t)
-      → (issued, x) ≡ answer u (IssueCall 0) → (last, w) ≡ stepped_to_end most_copy_steps x
+  pub copy_runs : (u x w : View) (submitted issued last : Reply) (result : Result A E) (out out' : List ℕ) → (submitted, u) ≡ answer v (SubmitCall 0 t)
+      → is_refused submitted ≡ false → (issued, x) ≡ answer u (IssueCall 0) → (last, w) ≡ stepped_to_end most_copy_steps x
       → OnOk result (out' ≡ out ++ text_of ((start ++ reply_text last) ∷ [])) → OnErr result (out' ≡ out) → RunsLine (copied start v t) w result out out'
-  copy_runs u x w cookie issued last result out out' submitted is steps prints kept = grind (arith, printed_runs, on_ok_weaker)
-
--- ---- the lines of a script, one after another
-
-pub length_lines_answered : (v : View) (lines : List Statement) → length (lines_answered v lines) ≡ length lines
-length_lines_answered v [] = refl
-length_lines_answered v (line ∷ rest) = ap (λ n. suc n) (length_lines_answered (line_answer v line).1 rest)
-
--- an interpreter with this view executes a line as `run` does
-abbrev pub AnswersSeen : {S : Type 0} → (S → View) → S → Statement → List (List ℕ) → S → Type 0
-AnswersSeen seen found line group left = line_answer (seen found) line ≡ (group, seen left)
-
--- what lines print that are executed one after another, and the view after them
-pub answered_in_turn : {S : Type 0} (seen : S → View) (lines : List Statement) (found left : S) (groups : List (List (List ℕ)))
-    → ActsInTurn (AnswersSeen seen) lines found groups left → (groups ≡ lines_answered (seen found) lines) × (seen left ≡ lines_left (seen found) lines)
-answered_in_turn seen [] found left [] done = (refl, ap seen done)
-answered_in_turn seen [] found left (g ∷ groups) done = absurd done
-answered_in_turn seen (line ∷ lines) found left [] done = absurd done
-answered_in_turn seen (line ∷ lines) found left (g ∷ groups) (next, acts, rest) =
-    let more = answered_in_turn seen lines next left groups rest in rw acts (ap (λ l. g ∷ l) more.0, more.1)
-
--- the first lines print the same without the others
-answered_first : (v : View) (before behind : List Statement) → take (length before) (lines_answered v (before ++ behind)) ≡ lines_answered v before
-answered_first v [] behind = refl
-answered_first v (line ∷ before) behind = ap (λ l. (line_answer v line).0 ∷ l) (answered_first (line_answer v line).1 before behind)
-
--- all lines were executed
-pub answered_all : {S : Type 0} (seen : S → View) (found left : S) (lines : List Statement) (old new : List ℕ)
-    → PrintsLines (AnswersSeen seen) found lines left old new → new ≡ old ++ printed_text (lines_answered (seen found) lines)
-answered_all seen found left lines old new done = done.text ∙ ap (λ g. old ++ printed_text g) (answered_in_turn seen lines found left done.groups done.acted).0
-
--- a line was out of memory
-pub answered_some : {S : Type 0} (seen : S → View) (is_refused : S → Statement → S → Type 0) (found left : S) (lines : List Statement) (old new : List ℕ)
-    → StopsAtALine (AnswersSeen seen) is_refused found lines left old new → AppendsGroups (lines_answered (seen found) lines) old new
-answered_some seen is_refused found left lines old new stop =
-    let v = seen found in
-    let first : take (length stop.before) (lines_answered v lines) ≡ lines_answered v stop.before = grind (arith, answered_first) in
-    record {
-      count = length stop.before;
-      some_left = omega (arith, length_lines_answered v lines, ap length stop.split, length-append stop.before (stop.line ∷ stop.behind));
-      whole = answered_all seen found stop.between stop.before old new stop.printed ∙ ap (λ g. old ++ printed_text g) (sym first);
-    }
+  copy_runs u x w submitted issued last result out out' are other is steps prints kept = grind (arith, printed_runs, on_ok_weaker)
 
 -- an answer that is out of memory
 pub answers_some : {E : Type 0} (printed : Printed) (result : Result ℕ E) (old new : List ℕ) → IsErr result → AppendsGroups printed.groups old new

@@ -1,53 +1,157 @@
-//! The command `run`: executes a script line by line.
-ghost use Rattle.std.specs.Prelude.{◌≡◌, ◌≤◌, ◌+◌, ◌++◌, IfSome, OnErr, OnOk};
-ghost use Rattle.dma_io.specs.Command.{Answers, Ends, failures, longest_input, printed_within, text_of};
+//! The command `run`: executes a script. Its lines become lists of calls, the engine's `run` replies to them, and the
+//! replies become text. Consecutive lines share a list, but for `copy`, `fill` and `totals`, which depend on the engine.
+ghost use Rattle.std.specs.Prelude.{◌≡◌, ◌≤◌, ◌+◌, ◌++◌, ◌∷◌, [], List, IfSome, OnErr, OnOk};
+ghost use Rattle.dma_io.specs.Command.{Answers, AppendsGroups, Ends, failures, longest_input, printed_within, text_of};
+ghost use Rattle.dma_script.specs.declared.statements.Statement.{Statement as TheStatement};
 ghost use Rattle.dma_commands.specs.Run.{line_answer, lines_answered, printed};
-ghost use Rattle.dma_commands.specs.inner.RunSteps.{RunsLine};
+ghost use Rattle.dma_commands.specs.inner.Listed.{AnswersLines, Reaches};
 
+mod call_list;
 mod calls;
 mod copies;
 mod left;
 mod steps;
 
-use crate::run::calls::{
-    answer_call, answer_issue, answer_pause, answer_read, answer_resume, answer_submit,
-    answer_totals, answer_write,
-};
+use crate::printing::Shown;
+use crate::run::call_list::{CallList, MAX_CALLS};
+use crate::run::calls::answer_totals;
 use crate::run::copies::answer_copy;
 pub use crate::run::left::{engine_after, new_engine};
-use crate::run::steps::{StepLines, answer_step, answer_steps};
+use crate::run::steps::answer_steps;
+use crate::transfers::transfer_of;
 use dma_engine::{Call, Engine};
 use dma_io::command::{Command, SUCCESS, refuse, serve};
 use dma_io::input::{MOST_RESERVED, Source};
 use dma_io::output::Sink;
-use dma_script::interpreter::Interpreter;
+use dma_io::printing::print_line;
 use dma_script::statements::{Statement, Statements, read_run_script};
+use dma_script::transfer_line::TransferLine;
 use std::alloc::{AllocError, Global};
 
-/// Executes a line and appends what it prints, or appends nothing and fails if memory runs out. Inlined where the kind
-/// of the line is known.
-#[inline(always)]
-fn run_statement(
-    engine: &mut Engine,
-    statement: Statement,
-    steps: &mut StepLines,
-    out: &mut Vec<u8>,
-) -> Result<(), AllocError>
-    ensures { RunsLine (line_answer engine.old.view statement) engine.new.view
-        result out.old.items out.new.items }
-{
-    match statement {
-        Statement::Call(Call::Write { addr, bytes }) => answer_write(engine, addr, bytes, out),
-        Statement::Call(Call::Read { addr, len }) => answer_read(engine, addr, len, out),
-        Statement::Call(Call::Issue { ch }) => answer_issue(engine, ch, out),
-        Statement::Call(Call::Pause { ch }) => answer_pause(engine, ch, out),
-        Statement::Call(Call::Resume { ch }) => answer_resume(engine, ch, out),
-        Statement::Call(call) => answer_call(engine, call, out),
-        Statement::Submit { ch, transfer } => answer_submit(engine, ch, transfer, out),
-        Statement::Copy(transfer) => answer_copy(engine, transfer, out),
-        Statement::Step { ch, count: 1 } => answer_step(engine, ch, out),
-        Statement::Step { ch, count } => answer_steps(engine, ch, count, steps, out),
-        Statement::Totals => answer_totals(engine, out),
+impl CallList {
+    /// Takes a line that makes one call. It waits in the list, whose lines are executed first if it is full.
+    #[inline(always)]
+    fn take_call(
+        &mut self,
+        engine: &mut Engine,
+        call: Call,
+        out: &mut Vec<u8>,
+    ) -> Result<(), AllocError>
+        ensures ok { OnOk result ((behind : List TheStatement) → Reaches engine.old.view
+            (self.old ++ Statement.Call call ∷ behind) out.old.items
+            engine.new.view (self.new ++ behind) out.new.items) }
+        ensures err { OnErr result ((behind : List TheStatement) → AppendsGroups
+            (lines_answered engine.old.view (self.old ++ Statement.Call call ∷ behind))
+            out.old.items out.new.items) }
+    {
+        self.make_room(engine, 1, out)?;
+        self.push(call)
+    }
+
+    /// Takes a `step` line. It waits in the list, unless it has too many steps for one.
+    fn take_steps(
+        &mut self,
+        engine: &mut Engine,
+        ch: u8,
+        count: u32,
+        out: &mut Vec<u8>,
+    ) -> Result<(), AllocError>
+        ensures ok { OnOk result ((behind : List TheStatement) → Reaches engine.old.view
+            (self.old ++ Statement.Step ch count ∷ behind) out.old.items
+            engine.new.view (self.new ++ behind) out.new.items) }
+        ensures err { OnErr result ((behind : List TheStatement) → AppendsGroups
+            (lines_answered engine.old.view (self.old ++ Statement.Step ch count ∷ behind))
+            out.old.items out.new.items) }
+    {
+        if count > MAX_CALLS {
+            self.execute(engine, out)?;
+            return answer_steps(engine, ch, count, out);
+        }
+        self.make_room(engine, count, out)?;
+        self.push_steps(ch, count)
+    }
+
+    /// Takes a `submit` line. If its transfer breaks a rule, it makes no call.
+    #[inline(never)]
+    fn take_submit(
+        &mut self,
+        engine: &mut Engine,
+        ch: u8,
+        words: TransferLine,
+        out: &mut Vec<u8>,
+    ) -> Result<(), AllocError>
+        ensures ok { OnOk result ((behind : List TheStatement) → Reaches engine.old.view
+            (self.old ++ Statement.Submit ch words ∷ behind) out.old.items
+            engine.new.view (self.new ++ behind) out.new.items) }
+        ensures err { OnErr result ((behind : List TheStatement) → AppendsGroups
+            (lines_answered engine.old.view (self.old ++ Statement.Submit ch words ∷ behind))
+            out.old.items out.new.items) }
+    {
+        match transfer_of(words) {
+            Ok(transfer) => self.take_call(engine, Call::Submit { ch, transfer }, out),
+            Err(fault) => {
+                self.execute(engine, out)?;
+                print_line(out, &("refused ", Shown(fault)))
+            }
+        }
+    }
+
+    /// Takes a `copy` or `fill` line. It is executed after those that wait.
+    #[inline(never)]
+    fn take_copy(
+        &mut self,
+        engine: &mut Engine,
+        words: TransferLine,
+        out: &mut Vec<u8>,
+    ) -> Result<(), AllocError>
+        ensures ok { OnOk result ((behind : List TheStatement) → Reaches engine.old.view
+            (self.old ++ Statement.Copy words ∷ behind) out.old.items
+            engine.new.view (self.new ++ behind) out.new.items) }
+        ensures err { OnErr result ((behind : List TheStatement) → AppendsGroups
+            (lines_answered engine.old.view (self.old ++ Statement.Copy words ∷ behind))
+            out.old.items out.new.items) }
+    {
+        self.execute(engine, out)?;
+        answer_copy(engine, words, out)
+    }
+
+    /// Takes a `totals` line. It is executed after those that wait.
+    #[inline(never)]
+    fn take_totals(&mut self, engine: &mut Engine, out: &mut Vec<u8>) -> Result<(), AllocError>
+        ensures ok { OnOk result ((behind : List TheStatement) → Reaches engine.old.view
+            (self.old ++ Statement.Totals ∷ behind) out.old.items
+            engine.new.view (self.new ++ behind) out.new.items) }
+        ensures err { OnErr result ((behind : List TheStatement) → AppendsGroups
+            (lines_answered engine.old.view (self.old ++ Statement.Totals ∷ behind))
+            out.old.items out.new.items) }
+    {
+        self.execute(engine, out)?;
+        answer_totals(engine, out)
+    }
+
+    /// Takes a line, which waits in the list, or is executed after those that wait there. Appends what the lines print
+    /// that were executed. If memory runs out, appends what the first of them print, but not all.
+    #[inline(always)]
+    fn take(
+        &mut self,
+        engine: &mut Engine,
+        line: Statement,
+        out: &mut Vec<u8>,
+    ) -> Result<(), AllocError>
+        ensures ok { OnOk result ((behind : List TheStatement) → Reaches engine.old.view
+            (self.old ++ line ∷ behind) out.old.items
+            engine.new.view (self.new ++ behind) out.new.items) }
+        ensures err { OnErr result ((behind : List TheStatement) → AppendsGroups
+            (lines_answered engine.old.view (self.old ++ line ∷ behind))
+            out.old.items out.new.items) }
+    {
+        match line {
+            Statement::Call(call) => self.take_call(engine, call, out),
+            Statement::Step { ch, count } => self.take_steps(engine, ch, count, out),
+            Statement::Submit { ch, transfer } => self.take_submit(engine, ch, transfer, out),
+            Statement::Copy(transfer) => self.take_copy(engine, transfer, out),
+            Statement::Totals => self.take_totals(engine, out),
+        }
     }
 }
 
@@ -59,32 +163,33 @@ pub fn run_line(engine: &mut Engine, line: Statement, out: &mut Vec<u8>) -> Resu
         (out.new.items ≡ out.old.items ++ text_of (line_answer engine.old.view line).0) }
     ensures err { OnErr result (out.new.items ≡ out.old.items) }
 {
-    let mut steps = StepLines::new(*out.allocator());
-    run_statement(engine, line, &mut steps, out)
+    let mut list = CallList::new(*out.allocator());
+    list.take(engine, line, out)?;
+    list.execute(engine, out)
 }
 
-/// Executes script lines on an engine.
-#[derive(Drop)]
-struct LinesOnEngine {
-    engine: Engine,
-    steps: StepLines,
-}
-
-impl Interpreter for LinesOnEngine {
-    type Line = Statement;
-
-    ghost acts = { λ found line group left. line_answer found.engine.view line
-        ≡ (group, left.engine.view) };
-
-    // Inlined into the code for each kind of line.
-    #[inline(always)]
-    fn interpret(&mut self, line: Statement, out: &mut Vec<u8>) -> Result<(), AllocError> {
-        run_statement(&mut self.engine, line, &mut self.steps, out)
+/// Executes the lines of a script, and appends what they print. Drops each line after it. If memory runs out, appends
+/// what the first lines print, but not all.
+fn execute_all(
+    engine: &mut Engine,
+    statements: Statements,
+    out: &mut Vec<u8>,
+) -> Result<(), AllocError>
+    ensures ok { OnOk result (AnswersLines engine.old.view statements engine.new.view
+        out.old.items out.new.items) }
+    ensures err { OnErr result
+        (AppendsGroups (lines_answered engine.old.view statements) out.old.items out.new.items) }
+{
+    let mut list = CallList::new(*out.allocator());
+    let mut left = statements.into_vec().into_iter();
+    while let Some(line) = left.next() {
+        list.take(engine, line, out)?;
     }
+    list.execute(engine, out)
 }
 
-/// Executes the lines of a script on an engine. Drops each line after it, and the engine at the end. Returns the exit
-/// status. If memory runs out, the output keeps what the lines before printed.
+/// Executes the lines of a script on an engine. Drops the engine at the end. Returns the exit status. If memory runs
+/// out, the output keeps what the lines before printed.
 pub fn run_statements(
     alloc: Global,
     engine: Engine,
@@ -94,10 +199,9 @@ pub fn run_statements(
     ensures { Answers (record { groups = lines_answered engine.view statements; status = 0 })
         result out.old.items out.new.items }
 {
-    let steps = StepLines::new(alloc);
-    let mut lines = LinesOnEngine { engine, steps };
-    let ran = statements.run(&mut lines, out);
-    drop(lines);
+    let mut engine = engine;
+    let ran = execute_all(&mut engine, statements, out);
+    drop(engine);
     ran?;
     Ok(SUCCESS)
 }

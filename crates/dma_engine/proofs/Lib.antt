@@ -31,6 +31,7 @@ pub mod CookieCounts
 pub mod IdleSteps
 pub mod JoinedCalls
 pub mod StepReplies
+pub mod Runs
 pub mod StaysSound
 pub mod Advances
 pub mod AdvanceResults

@@ -10,3 +10,4 @@ pub mod AtOnce
 pub mod Holds
 pub mod Inside
 pub mod Steps
+pub mod Runs

@@ -6,10 +6,11 @@ ghost use Rattle.dma_mem.specs.Places.{Descriptor, lies_below};
 ghost use Rattle.dma_engine.specs.inner.Ranges.{HasRangesOf};
 ghost use Rattle.dma_engine.specs.inner.Accesses.{conflicts};
 
+use crate::fault::NoMemory;
 use dma_mem::range_set::RangeSet;
 use dma_mem::segment::Segment;
 use dma_mem::transfer::Transfer;
-use std::alloc::{AllocError, Global};
+use std::alloc::Global;
 use std::marker::Model;
 
 /// An access to memory, which must not conflict with running transfers.
@@ -73,8 +74,8 @@ impl Model for FrontRanges {
 }
 
 impl FrontRanges {
-    /// Returns the addresses of no front. The error is `AllocError` if memory runs out.
-    pub fn new(alloc: Global) -> Result<FrontRanges, AllocError>
+    /// Returns the addresses of no front. The error is `NoMemory` if memory runs out.
+    pub fn new(alloc: Global) -> Result<FrontRanges, NoMemory>
         ensures { IfOk result (λ front. front ≡ None) }
     {
         let ranges = Ranges {
@@ -99,8 +100,8 @@ impl FrontRanges {
     }
 
     /// Makes them the addresses of a transfer, which runs now and whose segments end at 4,294,967,295 or below. The
-    /// error is `AllocError` if a copy of one of its lists can't be allocated; then no front runs.
-    pub fn set(&mut self, transfer: &Transfer) -> Result<(), AllocError>
+    /// error is `NoMemory` if a copy of one of its lists can't be allocated; then no front runs.
+    pub fn set(&mut self, transfer: &Transfer) -> Result<(), NoMemory>
         requires { lies_below transfer.now u32.MAX ≡ true }
         ensures set { OnOk result
             (IsSomeAnd self.new (λ ranges. HasRangesOf ranges transfer.now)) }

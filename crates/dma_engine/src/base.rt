@@ -3,11 +3,12 @@
 ghost use Rattle.std.specs.Prelude.{◌≡◌, ◌<◌, ◌≤◌, length, replicate, slice_index_or, IfOk, [], false};
 ghost use Rattle.dma_engine.specs.Object.{empty_channel, opening, used};
 
+use crate::fault::NoMemory;
 use dma_mem::events::Events;
 use dma_mem::marks::Marks;
 use dma_mem::memory::Memory;
 use dma_mem::transfer::Transfer;
-use std::alloc::{AllocError, Global};
+use std::alloc::Global;
 use std::marker::Model;
 
 /// The state of a channel in a base.
@@ -68,7 +69,7 @@ impl Model for Base {
 
 impl Base {
     /// Returns the opening object of an engine with this size and number of channels.
-    pub fn opening(alloc: Global, size: u32, channels: u8) -> Result<Base, AllocError>
+    pub fn opening(alloc: Global, size: u32, channels: u8) -> Result<Base, NoMemory>
         ensures { IfOk result (λ base. base ≡ opening size channels) }
     {
         let channels = new_channels(alloc, channels)?;
@@ -102,7 +103,7 @@ impl Base {
 }
 
 // Returns channels to which nothing was submitted.
-fn new_channels(alloc: Global, count: u8) -> Result<Vec<BaseChannel>, AllocError>
+fn new_channels(alloc: Global, count: u8) -> Result<Vec<BaseChannel>, NoMemory>
     ensures { IfOk result (λ channels. channels.items ≡ replicate count empty_channel) }
 {
     let mut channels = Vec::new(alloc);

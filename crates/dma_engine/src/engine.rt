@@ -13,7 +13,7 @@ ghost use Rattle.dma_engine.specs.inner.Due.{front_with_cookie};
 use crate::access::Access;
 use crate::base::Base;
 use crate::entry::Entry;
-use crate::fault::{EngineFault, NewFault};
+use crate::fault::{EngineFault, NewFault, NoMemory};
 use crate::outcome::Outcome;
 use crate::queue::Queue;
 use crate::turn::{Running, Status, Turn};
@@ -22,12 +22,12 @@ use dma_mem::limits::MAX_CHANNELS;
 use dma_mem::marks::Marks;
 use dma_mem::memory::{MemFault, Memory};
 use dma_mem::transfer::Transfer;
-use std::alloc::{AllocError, Global};
+use std::alloc::Global;
 use std::marker::Model;
 
 mod advance;
 mod at_once;
-mod calls;
+pub(crate) mod calls;
 mod checkpoints;
 mod fronts;
 mod host_calls;
@@ -150,8 +150,8 @@ impl Engine {
     }
 
     /// Makes room in the history for this many more entries, so that it isn't copied when they are added. Fails with
-    /// `AllocError` if memory runs out, and then changes nothing.
-    pub fn reserve_entries(&mut self, entries: usize) -> Result<(), AllocError>
+    /// `NoMemory` if memory runs out, and then changes nothing.
+    pub fn reserve_entries(&mut self, entries: usize) -> Result<(), NoMemory>
         ensures same { self.new ≡ record (self.old) {
           room = record (self.old.room) { entries = self.new.room.entries };
         } }
@@ -159,7 +159,7 @@ impl Engine {
         ensures kept { self.old.room.entries ≤ self.new.room.entries }
         ensures err { OnErr result (self.new ≡ self.old) }
     {
-        self.history.reserve(entries)
+        Ok(self.history.reserve(entries)?)
     }
 
     /// Returns how many cookies a channel has given, or 0 if there is no such channel.
@@ -327,7 +327,7 @@ impl Engine {
 }
 
 // Returns queues to which nothing was submitted.
-fn new_queues(alloc: Global, count: u8) -> Result<Vec<Queue>, AllocError>
+fn new_queues(alloc: Global, count: u8) -> Result<Vec<Queue>, NoMemory>
     ensures { IfOk result (λ queues. queues.items ≡ replicate count new_queue) }
 {
     let mut queues = Vec::new(alloc);

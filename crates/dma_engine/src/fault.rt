@@ -3,6 +3,7 @@
 ghost use Rattle.std.specs.Prelude.{◌≡◌};
 
 use dma_mem::limits::{MAX_CHANNELS, MAX_SIZE};
+pub use dma_mem::no_memory::NoMemory;
 use dma_mem::transfer::Transfer;
 use std::alloc::AllocError;
 use thiserror::Error;
@@ -61,6 +62,17 @@ impl From<AllocError> for EngineFault {
     }
 }
 
+impl From<NoMemory> for EngineFault {
+    ghost use Rattle.std.specs.Prelude.{◌≡◌};
+    ghost use Rattle.dma_engine.specs.declared.fault.EngineFault.TheVariants.{NoMemory};
+
+    ghost from_gives = { λ _ fault. fault ≡ NoMemory };
+
+    fn from(_refused: NoMemory) -> EngineFault {
+        EngineFault::NoMemory
+    }
+}
+
 /// Why no engine was made, in the order of the checks.
 #[derive(Clone, Copy, Debug, PartialEq, Eq, Error)]
 pub enum NewFault {
@@ -75,25 +87,14 @@ pub enum NewFault {
     NoMemory,
 }
 
-impl From<AllocError> for NewFault {
+impl From<NoMemory> for NewFault {
     ghost use Rattle.std.specs.Prelude.{◌≡◌};
     ghost use Rattle.dma_engine.specs.declared.fault.NewFault.TheVariants.{NoMemory};
 
     ghost from_gives = { λ _ fault. fault ≡ NoMemory };
 
-    fn from(_refused: AllocError) -> NewFault {
+    fn from(_refused: NoMemory) -> NewFault {
         NewFault::NoMemory
-    }
-}
-
-/// Memory ran out.
-#[derive(Clone, Copy, Debug, PartialEq, Eq, Error)]
-#[error("out of memory")]
-pub struct NoMemory;
-
-impl From<AllocError> for NoMemory {
-    fn from(_refused: AllocError) -> NoMemory {
-        NoMemory
     }
 }
 

@@ -2,7 +2,8 @@
 
 ghost use Rattle.std.specs.Prelude.{◌≡◌, ◌+◌, ◌<◌, ◌≤◌, ◌++◌, ◌∷◌, [], length, IsOk, OnOk, OnErr};
 
-use std::alloc::{AllocError, Global};
+use crate::fault::NoMemory;
+use std::alloc::Global;
 use std::marker::Model;
 
 /// A list whose room for more items is made before they are added.
@@ -48,14 +49,14 @@ impl<T> SpareVec<T> {
     }
 
     /// Makes room for this number of further items. Nothing changes when out of memory.
-    pub fn make_room(&mut self, more: usize) -> Result<(), AllocError>
+    pub fn make_room(&mut self, more: usize) -> Result<(), NoMemory>
         ensures items { self.new.items ≡ self.old.items }
         ensures room { OnOk result (more ≤ self.new.spare) }
         ensures none { OnErr result (self.new ≡ self.old) }
         ensures there { more ≤ self.old.spare → IsOk result }
         ensures kept { self.old.spare ≤ self.new.spare }
     {
-        self.items.reserve(more)
+        Ok(self.items.reserve(more)?)
     }
 
     /// Adds an item at the end. There must be room for it.

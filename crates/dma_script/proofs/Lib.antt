@@ -9,7 +9,6 @@ pub mod InterpretedLemmas
 pub mod LineLemmas
 pub mod PairLemmas
 pub mod PlainLines
-pub mod QueueLemmas
 pub mod Within
 pub mod Reading
 pub mod Rows

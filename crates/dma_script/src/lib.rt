@@ -4,7 +4,7 @@
 //!
 //! Proved: what `read_run_script`, `read_race_script`, `read_plan` and `read_pairs` return is a function of the input;
 //! the reported fault is the first of the table that also defines what lines mean (`laws::first_faults_are_reported`);
-//! `Statements::run` runs all lines, or those before the one that is out of memory.
+//! `List::run` runs all lines, or those before the one that is out of memory.
 #![tactic(auto)]
 
 mod arguments;
@@ -14,7 +14,6 @@ pub mod laws;
 pub mod lines;
 pub mod list;
 pub mod pairs;
-mod queue;
 pub mod race;
 pub mod statements;
 pub mod transfer_line;

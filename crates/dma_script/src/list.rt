@@ -1,6 +1,9 @@
 //! Lists that contracts see as their items alone.
 ghost use Rattle.std.specs.Prelude.{◌≡◌, ◌++◌, ◌∷◌, [], OnErr, OnOk};
+ghost use Rattle.std.specs.List.{All};
+ghost use Rattle.dma_script.specs.Interpreted.{PrintsLines, StopsAtALine};
 
+use crate::interpreter::Interpreter;
 use std::alloc::{AllocError, Global};
 use std::marker::Model;
 
@@ -34,6 +37,21 @@ impl<T: Drop> List<T> {
         self.items.as_slice()
     }
 
+    /// Returns the items in a vector of their own, which takes no memory.
+    pub fn into_vec(self) -> Vec<T>
+        ensures { result.items ≡ self }
+    {
+        self.items
+    }
+
+    /// Reserves memory for this many more items, so that they are copied less often while the list grows. Reserves
+    /// nothing if memory runs out.
+    pub(crate) fn reserve(&mut self, more: usize)
+        ensures { self.new ≡ self.old }
+    {
+        let _ = self.items.reserve(more);
+    }
+
     /// Adds an item at the end. If it is out of memory, the list is unchanged.
     #[inline(always)]
     pub(crate) fn push(&mut self, item: T) -> Result<(), AllocError>
@@ -42,6 +60,32 @@ impl<T: Drop> List<T> {
     {
         self.items.reserve(1)?;
         self.items.push_reserved(item);
+        Ok(())
+    }
+}
+
+impl<T: Drop> List<T> {
+    /// Runs the items as lines, one after another. Each is moved to the interpreter.
+    ///
+    /// If a line is out of memory, fails without running those after it. The complete text of the lines before it has
+    /// been appended, so no printed text is lost, and text is missing only after such a failure.
+    pub fn run<I: Interpreter<Line = T>>(
+        self,
+        interpreter: &mut I,
+        out: &mut Vec<u8>,
+    ) -> Result<(), AllocError>
+        requires taken { All I.takes self }
+        requires ready { I.is_ready interpreter.old }
+        ensures ok { OnOk result (PrintsLines I.acts
+            interpreter.old self interpreter.new out.old.items out.new.items) }
+        ensures ready_again { OnOk result (I.is_ready interpreter.new) }
+        ensures err { OnErr result (StopsAtALine I.acts I.is_refused
+            interpreter.old self interpreter.new out.old.items out.new.items) }
+    {
+        let mut left = self.items.into_iter();
+        while let Some(line) = left.next() {
+            interpreter.interpret(line, out)?;
+        }
         Ok(())
     }
 }

@@ -9,7 +9,7 @@ use crate::arguments::Arguments;
 pub use crate::arguments::MAX_LINE_STEPS;
 use crate::fault::{Cause, LineError, ScriptError, missing};
 use crate::lines::{Script, read_script};
-pub use crate::queue::Statements;
+use crate::list::List;
 use crate::transfer_line::{Origin, TransferLine, transfer};
 use crate::words::next_word;
 use dma_io::input::MOST_RESERVED;
@@ -75,6 +75,12 @@ pub enum Statement {
     /// Prints the counts of the whole run.
     Totals,
 }
+
+/// The statements of lines, in their order.
+pub type Statements = List<Statement>;
+
+/// How many bytes a line is taken to have, with its line feed: those of `step 0 9`.
+const BYTES_PER_LINE: usize = 9;
 
 /// A run script: its memory line, and the lines after that.
 #[derive(Drop)]
@@ -149,7 +155,8 @@ fn read_write(
 {
     let addr = words.number();
     let bytes = words.bytes(alloc, kept)?;
-    Ok(statements.push_write(addr, bytes)?)
+    let write = Statement::Call(Call::Write { addr, bytes });
+    Ok(statements.push(write)?)
 }
 
 /// Reads `LIST to LIST` and adds the statement of a `copy` line.
@@ -310,7 +317,9 @@ impl ReadSoFar {
         ensures { Gives (λ _. self.new) result (next_line None keyword (words_of words.now)) }
     {
         let mut script = first_line(alloc, keyword, words)?;
-        script.statements.reserve_for(self.reserved_len);
+        script
+            .statements
+            .reserve(self.reserved_len / BYTES_PER_LINE);
         self.script = Some(script);
         Ok(())
     }

@@ -1,6 +1,6 @@
 -- The effect and the output of one script line.
-use Rattle.std.specs.Prelude.{◌≡◌, ℕ, ◌++◌, List, [], Option, OnErr, OnOk, Result, Some, slice_get}
-use Rattle.dma_engine.specs.{declared.entry.Entry.Entry, declared.entry.Entry.TheVariants.ReadBack, View.View}
+use Rattle.std.specs.Prelude.{◌≡◌, ℕ, ◌++◌, List, OnErr, OnOk, Result}
+use Rattle.dma_engine.specs.{View.View}
 use Rattle.dma_io.specs.Command.{text_of}
 use Rattle.dma_commands.specs.Run.{Answered}
 
@@ -13,12 +13,3 @@ pub record AnswersLine (answered : Answered) (new : View) (out out' : List ℕ) 
 pub record RunsLine {A E : Type 0} (answered : Answered) (new : View) (result : Result A E) (out out' : List ℕ) : Type 0 where
   pub ok : OnOk result (AnswersLine answered new out out')
   pub err : OnErr result (out' ≡ out)
-
--- the bytes of a `ReadBack` entry; an empty list for any other entry, or for none
-abbrev pub read_in : Option Entry → List ℕ
-read_in (Some (ReadBack addr bytes)) = bytes
-read_in _ = []
-
--- the bytes of the `ReadBack` entry at an index of a history; an empty list if there is no such entry
-abbrev pub read_at : List Entry → ℕ → List ℕ
-read_at history place = read_in (slice_get history place)

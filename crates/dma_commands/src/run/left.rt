@@ -4,8 +4,7 @@ ghost use Rattle.dma_engine.specs.View.{new_view};
 ghost use Rattle.dma_script.specs.Statements.{IsWithin};
 ghost use Rattle.dma_commands.specs.Left.{view_after};
 
-use crate::run::LinesOnEngine;
-use crate::run::steps::StepLines;
+use crate::run::execute_all;
 use dma_engine::{Engine, NewFault};
 use dma_script::statements::RunScript;
 use std::alloc::{AllocError, Global};
@@ -27,11 +26,8 @@ pub fn engine_after(alloc: Global, script: RunScript) -> Result<Engine, AllocErr
     requires { IsWithin script }
     ensures { IfOk result (λ engine. engine.view ≡ view_after script) }
 {
-    let engine = new_engine(alloc, &script)?;
-    let steps = StepLines::new(alloc);
-    let mut lines = LinesOnEngine { engine, steps };
+    let mut engine = new_engine(alloc, &script)?;
     let mut printed = Vec::new(alloc);
-    script.statements.run(&mut lines, &mut printed)?;
-    let LinesOnEngine { engine, steps: _ } = lines;
+    execute_all(&mut engine, script.statements, &mut printed)?;
     Ok(engine)
 }

@@ -1,19 +1,18 @@
 //! The `step` lines of a script. Equal consecutive answers are counted and printed as one line.
 
-ghost use Rattle.std.specs.Prelude.{◌≡◌, ◌≢◌, ◌≤◌, ◌<◌, ◌+◌, ◌++◌, ◌∷◌, [], List, ℕ, codes, decimal, OnOk, OnErr, IfOk, IfSome, IsNone, IsTrue, Err, is_some, map, replicate, if◌then◌else◌};
-ghost use Rattle.dma_engine.specs.Answer.{answers, reply_of};
-ghost use Rattle.dma_engine.specs.Room.{IsIdle};
-ghost use Rattle.dma_mem.specs.declared.call.Call.TheVariants as calls;
+ghost use Rattle.std.specs.Prelude.{◌≡◌, ◌≢◌, ◌≤◌, ◌<◌, ◌+◌, ◌++◌, ◌∷◌, [], List, ℕ, codes, OnOk, OnErr, IfOk, IfSome, length, map, replicate, take};
+ghost use Rattle.dma_engine.specs.Answer.{reply_of};
 ghost use Rattle.dma_io.specs.Command.{text_of};
+ghost use Rattle.dma_commands.specs.Laws.{HaveMemory};
 ghost use Rattle.dma_commands.specs.Printed.{reply_text};
-ghost use Rattle.dma_engine.specs.Advance.{IsAdvance, start_replies, steps_before};
-ghost use Rattle.dma_engine.specs.View.{View};
 ghost use Rattle.dma_commands.specs.inner.Counting.{text_with, transfer_text};
 ghost use Rattle.dma_commands.specs.inner.RunSteps.{RunsLine};
-ghost use Rattle.dma_commands.specs.Run.{step_answer, step_line};
+ghost use Rattle.dma_commands.specs.Run.{step_answer, step_line, step_lines};
 
 use crate::printing::Shown;
-use dma_engine::{Advanced, Engine, EngineFault, Reply, TransResult, Turn};
+use crate::run::call_list::{MAX_CALLS, push_calls};
+use dma_engine::run::run;
+use dma_engine::{Engine, EngineFault, Reply, TransResult, Turn};
 use dma_io::printing::print_line;
 use dma_text::text::{Text, print};
 use std::alloc::{AllocError, Global};
@@ -41,8 +40,7 @@ impl<T: Text> Text for StepLine<T> {
 }
 
 /// The answers to the steps of a line so far: the printed lines of the earlier ones, and the last answer with the
-/// number of its consecutive occurrences. A script uses one value for all its `step` lines, so that the memory of its
-/// lists is reused.
+/// number of its consecutive occurrences.
 #[derive(Drop)]
 pub struct StepLines {
     lines: Vec<u8>,
@@ -63,6 +61,15 @@ impl StepLines {
             count: 0,
             next: Vec::new(alloc),
         }
+    }
+
+    /// Forgets all answers.
+    fn clear(&mut self)
+        ensures lines { self.new.lines.items ≡ [] }
+        ensures count { self.new.count ≡ 0 }
+    {
+        self.lines.clear();
+        self.count = 0;
     }
 
     /// Appends the line of the last answer to `lines`, if an answer was counted. Fails if memory runs out.
@@ -95,6 +102,8 @@ impl StepLines {
             → text_with ch self.new.lines.items self.new.last.items self.new.count rest
             ≡ text_with ch self.old.lines.items self.old.last.items self.old.count
             (replicate many (reply_text reply.now) ++ rest)) }
+        ensures memory { OnOk result
+            (0 < many → reply.now ≢ Reply.Refused EngineFault.NoMemory) }
         ensures count { OnOk result (self.new.count ≤ self.old.count + many) }
     {
         if many == 0 {
@@ -112,21 +121,24 @@ impl StepLines {
         Ok(())
     }
 
-    /// Adds the answer to a step that started this cookie, if any. Fails if memory runs out.
-    fn take_start(&mut self, ch: u8, started: Option<u32>) -> Result<(), AllocError>
-        requires { self.old.count + (if is_some started then 1 else 0) ≤ u32.MAX }
+    /// Adds the answers to steps of a channel, in order. Fails if memory runs out.
+    fn take_all(&mut self, ch: u8, replies: &[Reply]) -> Result<(), AllocError>
+        requires { self.old.count + length replies.now ≤ u32.MAX }
         ensures text { OnOk result
             ((rest : List (List ℕ))
             → text_with ch self.new.lines.items self.new.last.items self.new.count rest
             ≡ text_with ch self.old.lines.items self.old.last.items self.old.count
-            (map reply_text (start_replies started) ++ rest)) }
-        ensures count { OnOk result
-            (self.new.count ≤ self.old.count + (if is_some started then 1 else 0)) }
+            (map reply_text replies.now ++ rest)) }
+        ensures memory { OnOk result (HaveMemory replies.now) }
+        ensures count { OnOk result (self.new.count ≤ self.old.count + length replies.now) }
     {
-        match started {
-            Some(cookie) => self.take(ch, &Reply::Turned(Turn::Started(cookie)), 1),
-            None => Ok(()),
+        let mut left = replies;
+        while let [first, rest @ ..] = left {
+            let many = equal_replies(first, rest);
+            self.take(ch, first, many as u32)?;
+            left = &left[many..];
         }
+        Ok(())
     }
 }
 
@@ -144,67 +156,44 @@ pub fn step_reply(turn: Result<Turn, EngineFault>) -> Result<Reply, AllocError>
     }
 }
 
-/// Returns whether a step with this answer changed nothing, so that the next step answers the same.
-fn is_idle(turn: Result<Turn, EngineFault>) -> bool
-    ensures idle { IsTrue result → IsIdle turn }
-    ensures all { IsIdle turn → IsTrue result }
+/// Returns how many of these results of steps are this one, up to the first other.
+fn equal_turns(turn: Turn, replies: &[Reply]) -> usize
+    ensures few { result ≤ length replies.now }
+    ensures equal { take result replies.now ≡ replicate result (Reply.Turned turn) }
 {
-    !matches!(
-        turn,
-        Ok(Turn::Started(_) | Turn::Moved | Turn::Finished { .. })
-    )
+    let mut count = 0;
+    while count < replies.len()
+        && let Reply::Turned(other) = &replies[count]
+        && *other == turn
+    {
+        count += 1;
+    }
+    count
 }
 
-/// Adds the answers to the steps of a channel, at most `most`, that the engine took in one call. An answer that every
-/// later step repeats is counted for all remaining steps, which are not executed. Returns the number of answers that it
-/// added. Fails if memory runs out.
-fn take_steps(
-    steps: Advanced,
-    ch: u8,
-    most: u32,
-    printed: &mut StepLines,
-) -> Result<u32, AllocError>
-    requires all { IsNone steps.last → steps_before steps ≡ most }
-    requires other { IfSome steps.last (λ _. steps_before steps < most) }
-    requires few { printed.old.count + most ≤ u32.MAX }
-    ensures many { IfOk result (λ many. (0 < most → 0 < many) × (many ≤ most)) }
-    ensures view { IfOk result (λ many. (v w : View) → IsAdvance v ch most steps w
-        → w ≡ (answers v (replicate many (calls.Step ch))).1) }
-    ensures text { IfOk result
-        (λ many. (v w : View) → IsAdvance v ch most steps w → (rest : List (List ℕ))
-        → text_with ch printed.new.lines.items printed.new.last.items printed.new.count rest
-        ≡ text_with ch printed.old.lines.items printed.old.last.items printed.old.count
-        (map reply_text (answers v (replicate many (calls.Step ch))).0 ++ rest)) }
-    ensures count { IfOk result (λ many. printed.new.count ≤ printed.old.count + many) }
+/// Returns how many replies to steps are counted at once: the first, and after a result of a step those that are equal.
+fn equal_replies(first: &Reply, rest: &[Reply]) -> usize
+    ensures some { 0 < result }
+    ensures few { result ≤ length rest.now + 1 }
+    ensures equal { take result (first.now ∷ rest.now) ≡ replicate result first.now }
 {
-    printed.take_start(ch, steps.started)?;
-    printed.take(ch, &Reply::Turned(Turn::Moved), steps.moved)?;
-    let before = steps.steps_before();
-    let Some(last) = steps.last else {
-        return Ok(before);
-    };
-    let reply = step_reply(last)?;
-    let many = if is_idle(last) { most - before } else { 1 };
-    printed.take(ch, &reply, many)?;
-    Ok(before + many)
+    match first {
+        Reply::Turned(turn) => 1 + equal_turns(*turn, rest),
+        _ => 1,
+    }
 }
 
 /// Appends the line of one step with this answer. Not inlined, since most steps move.
 #[inline(never)]
-fn print_step(
-    ch: u8,
-    turned: Result<Turn, EngineFault>,
-    out: &mut Vec<u8>,
-) -> Result<(), AllocError>
-    ensures ok { OnOk result (out.new.items ≡ out.old.items ++ text_of
-        (step_line ch (reply_text (reply_of (λ turn. Reply.Turned turn) turned), 1) ∷ [])) }
-    ensures printed { OnOk result
-        (reply_of (λ turn. Reply.Turned turn) turned ≢ Reply.Refused EngineFault.NoMemory) }
+fn print_step(ch: u8, reply: &Reply, out: &mut Vec<u8>) -> Result<(), AllocError>
+    ensures ok { OnOk result (out.new.items ≡ out.old.items
+        ++ text_of (step_line ch (reply_text reply.now, 1) ∷ [])) }
+    ensures printed { OnOk result (reply.now ≢ Reply.Refused EngineFault.NoMemory) }
     ensures err { OnErr result (out.new.items ≡ out.old.items) }
 {
     let line = StepLine {
         ch,
-        answer: Shown(turned),
+        answer: Shown(reply),
         count: 1,
     };
     print_line(out, &line)
@@ -217,74 +206,77 @@ fn print_moved(ch: u8, out: &mut Vec<u8>) -> Result<(), AllocError>
     ensures err { OnErr result (out.new.items ≡ out.old.items) }
 {
     if ch >= 10 {
-        return print_step(ch, Ok(Turn::Moved), out);
+        return print_step(ch, &Reply::Turned(Turn::Moved), out);
     }
     let mut line = *b"step 0 moved x1\n";
     line[5] += ch;
     out.extend_from_slice(&line)
 }
 
-/// Executes a `step` line of one step. The line is appended directly to the output.
-#[inline(never)]
-pub fn answer_step(engine: &mut Engine, ch: u8, out: &mut Vec<u8>) -> Result<(), AllocError>
-    ensures { RunsLine (step_answer engine.old.view ch 1) engine.new.view
-        result out.old.items out.new.items }
-{
-    match engine.step(ch) {
-        // Most steps move.
-        Ok(Turn::Moved) => print_moved(ch, out),
-        turned => print_step(ch, turned, out),
-    }
-}
-
-/// Returns the cookie of the transfer that steps started, and that of the transfer that they finished without an error,
-/// if they did both.
-#[inline(always)]
-fn whole_transfer(steps: Advanced) -> Option<(u32, u32)>
-    ensures { IfSome result (λ cookies. (steps.started ≡ Some cookies.0)
-        × (steps.last ≡ Some (Ok (Turn.Finished cookies.1 TransResult.NoError 0)))) }
-{
-    let started = steps.started?;
-    match steps.last {
-        Some(
-            Ok(
-                Turn::Finished {
-                    cookie,
-                    result: TransResult::NoError,
-                    residue: 0,
-                },
-            ),
-        ) => Some((started, cookie)),
-        _ => None,
-    }
-}
-
-/// Appends the lines of a transfer that starts, moves and finishes without an error within one `step` line.
-fn print_transfer(
-    ch: u8,
+/// A transfer that starts, moves and finishes without an error.
+#[derive(Clone, Copy)]
+struct Whole {
     started: u32,
     moved: u32,
     finished: u32,
-    out: &mut Vec<u8>,
-) -> Result<(), AllocError>
-    ensures ok { OnOk result
-        (out.new.items ≡ out.old.items ++ transfer_text ch started moved finished) }
+}
+
+/// Returns the transfer that these answers to steps start, move and finish without an error, if they do.
+#[inline(always)]
+fn whole_transfer(replies: &[Reply]) -> Option<Whole>
+    requires { length replies.now ≤ u32.MAX }
+    ensures some { IfSome result (λ whole. 0 < whole.moved) }
+    ensures all { IfSome result (λ whole. replies.now ≡ Reply.Turned (Turn.Started whole.started)
+        ∷ (replicate whole.moved (Reply.Turned Turn.Moved)
+        ++ Reply.Turned (Turn.Finished whole.finished TransResult.NoError 0) ∷ [])) }
+{
+    let [
+        Reply::Turned(Turn::Started(started)),
+        moves @ ..,
+        Reply::Turned(last),
+    ] = replies
+    else {
+        return None;
+    };
+    let Turn::Finished {
+        cookie,
+        result: TransResult::NoError,
+        residue: 0,
+    } = *last
+    else {
+        return None;
+    };
+    let moved = equal_turns(Turn::Moved, moves);
+    if moved == 0 || moved < moves.len() {
+        return None;
+    }
+    Some(Whole {
+        started: *started,
+        moved: moved as u32,
+        finished: cookie,
+    })
+}
+
+/// Appends the lines of a transfer that starts, moves and finishes without an error within one `step` line.
+fn print_transfer(ch: u8, whole: Whole, out: &mut Vec<u8>) -> Result<(), AllocError>
+    ensures ok { OnOk result (out.new.items
+        ≡ out.old.items ++ transfer_text ch whole.started whole.moved whole.finished) }
     ensures err { OnErr result (out.new.items ≡ out.old.items) }
 {
     let finish = Turn::Finished {
-        cookie: finished,
+        cookie: whole.finished,
         result: TransResult::NoError,
         residue: 0,
     };
     let start = StepLine {
         ch,
-        answer: Shown(Turn::Started(started)),
+        answer: Shown(Turn::Started(whole.started)),
         count: 1,
     };
     let moves = StepLine {
         ch,
         answer: Shown(Turn::Moved),
-        count: moved,
+        count: whole.moved,
     };
     let finish = StepLine {
         ch,
@@ -294,34 +286,74 @@ fn print_transfer(
     print(out, &((start, "\n"), (moves, "\n"), (finish, "\n")))
 }
 
-/// Executes `step CH N` of several steps. No step allocates memory for its answer, and the steps after one that changed
-/// nothing are only counted.
+/// Appends the lines of the answers to several steps of a channel.
+#[inline(never)]
+fn print_several(
+    ch: u8,
+    replies: &[Reply],
+    steps: &mut StepLines,
+    out: &mut Vec<u8>,
+) -> Result<(), AllocError>
+    requires { length replies.now ≤ u32.MAX }
+    ensures ok { OnOk result
+        (out.new.items ≡ out.old.items ++ text_of (step_lines ch (map reply_text replies.now))) }
+    ensures printed { OnOk result (HaveMemory replies.now) }
+    ensures err { OnErr result (out.new.items ≡ out.old.items) }
+{
+    if let Some(whole) = whole_transfer(replies) {
+        return print_transfer(ch, whole, out);
+    }
+    steps.clear();
+    steps.take_all(ch, replies)?;
+    steps.end_line(ch)?;
+    print(out, &steps.lines.as_slice())
+}
+
+/// Appends the lines of the answers to steps of a channel. Appends nothing if one of them is out of memory, or memory
+/// runs out.
+#[inline(always)]
+pub fn print_steps(
+    ch: u8,
+    replies: &[Reply],
+    steps: &mut StepLines,
+    out: &mut Vec<u8>,
+) -> Result<(), AllocError>
+    requires { length replies.now ≤ u32.MAX }
+    ensures ok { OnOk result
+        (out.new.items ≡ out.old.items ++ text_of (step_lines ch (map reply_text replies.now))) }
+    ensures printed { OnOk result (HaveMemory replies.now) }
+    ensures err { OnErr result (out.new.items ≡ out.old.items) }
+{
+    match replies {
+        [Reply::Turned(Turn::Moved)] => print_moved(ch, out),
+        [reply] => print_step(ch, reply, out),
+        _ => print_several(ch, replies, steps, out),
+    }
+}
+
+/// Executes a `step` line of so many steps that they take several lists of calls.
 #[inline(never)]
 pub fn answer_steps(
     engine: &mut Engine,
     ch: u8,
     count: u32,
-    steps: &mut StepLines,
     out: &mut Vec<u8>,
 ) -> Result<(), AllocError>
     ensures { RunsLine (step_answer engine.old.view ch count) engine.new.view
         result out.old.items out.new.items }
 {
-    let first = engine.advance(ch, count);
-    if let Some((started, finished)) = whole_transfer(first)
-        && 0 < first.moved
-        && count - first.moved == 2
-    {
-        return print_transfer(ch, started, first.moved, finished, out);
-    }
-    steps.lines.clear();
-    steps.count = 0;
-    let added = take_steps(first, ch, count, steps)?;
-    let mut left = count - added;
+    let alloc = *out.allocator();
+    let mut steps = StepLines::new(alloc);
+    let mut calls = Vec::new(alloc);
+    push_calls(&mut calls, ch, MAX_CALLS)?;
+    let mut left = count;
     while left > 0 {
-        let next = engine.advance(ch, left);
-        let more = take_steps(next, ch, left, steps)?;
-        left -= more;
+        let many = left.min(MAX_CALLS);
+        let Ok(replies) = run(alloc, engine, &calls[..many as usize]) else {
+            return Err(AllocError);
+        };
+        steps.take_all(ch, &replies)?;
+        left -= many;
     }
     steps.end_line(ch)?;
     print(out, &steps.lines.as_slice())

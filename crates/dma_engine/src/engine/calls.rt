@@ -1,12 +1,12 @@
 //! Executes a call that is given as a value, and returns its reply.
 
 ghost use Rattle.std.specs.Prelude.{◌≡◌};
-ghost use Rattle.dma_engine.specs.Answer.{CallAnswers, count_reply, done_reply};
+ghost use Rattle.dma_engine.specs.Answer.{CallAnswers, count_reply, done_reply, reply_of};
 
 use crate::call::{Call, Reply};
 use crate::engine::Engine;
 use crate::fault::EngineFault;
-use crate::turn::Status;
+use crate::turn::{Status, Turn};
 use dma_mem::lists::Bytes;
 
 impl Engine {
@@ -26,10 +26,7 @@ impl Engine {
             Call::Pause { ch } => done_or_refused(self.pause(*ch)),
             Call::Resume { ch } => done_or_refused(self.resume(*ch)),
             Call::Terminate { ch } => counted_or_refused(self.terminate(*ch)),
-            Call::Step { ch } => match self.step(*ch) {
-                Ok(turn) => Reply::Turned(turn),
-                Err(fault) => Reply::Refused(fault),
-            },
+            Call::Step { ch } => turned_or_refused(self.step(*ch)),
             Call::Status { ch, cookie } => Reply::State(self.status(*ch, *cookie)),
             Call::Result { ch, cookie } => Reply::Result(self.result(*ch, *cookie)),
             Call::Mark { kind, segment } => done_or_refused(self.mark(*kind, *segment)),
@@ -37,6 +34,17 @@ impl Engine {
             Call::Raise { event } => done_or_refused(self.raise(*event)),
             Call::Checkpoint => done_or_refused(self.checkpoint()),
         }
+    }
+}
+
+// Returns the reply to a step.
+#[inline(always)]
+pub(crate) fn turned_or_refused(outcome: Result<Turn, EngineFault>) -> Reply
+    ensures { result ≡ reply_of (λ turn. Reply.Turned turn) outcome }
+{
+    match outcome {
+        Ok(turn) => Reply::Turned(turn),
+        Err(fault) => Reply::Refused(fault),
     }
 }
 

@@ -12,10 +12,10 @@ use crate::access::Access;
 use crate::base::{Base, BaseChannel};
 use crate::call::{Call, Reply};
 use crate::engine::Engine;
-use crate::fault::EngineFault;
+use crate::fault::{EngineFault, NoMemory};
 use crate::queue::Queue;
 use dma_mem::transfer::Transfer;
-use std::alloc::{AllocError, Global};
+use std::alloc::Global;
 
 impl Engine {
     /// Makes the present state the base from which the history begins, and empties the history. Of the finished cookies
@@ -45,7 +45,7 @@ impl Engine {
     }
 
     // Returns the base that a checkpoint stores.
-    fn next_base(&self) -> Result<Base, AllocError>
+    fn next_base(&self) -> Result<Base, NoMemory>
         requires { first_running self.now.view (λ _. true) ≡ None }
         ensures { IfOk result (λ base. base ≡ base_from (object_of self.now.view)) }
     {
@@ -62,7 +62,7 @@ impl Engine {
     }
 
     // Returns the next base's state of all channels.
-    fn next_channels(&self) -> Result<Vec<BaseChannel>, AllocError>
+    fn next_channels(&self) -> Result<Vec<BaseChannel>, NoMemory>
         requires { first_running self.now.view (λ _. true) ≡ None }
         ensures { IfOk result
             (λ list. list.items ≡ map forget (object_of self.now.view).channels) }
@@ -75,7 +75,7 @@ impl Engine {
     }
 
     // Returns the next base's state of a channel.
-    fn next_channel(&self, index: usize) -> Result<BaseChannel, AllocError>
+    fn next_channel(&self, index: usize) -> Result<BaseChannel, NoMemory>
         requires there { index < channels self.now.view }
         requires rests { (schedule_at self.now.view index).taken ≡ None }
         ensures { IfOk result (λ base. base ≡ forget (channel (object_of self.now.view) index)) }
@@ -91,7 +91,7 @@ impl Engine {
     }
 
     // Returns copies of the unfinished transfers of a channel, in the order of their cookies.
-    fn unfinished_copies(&self, index: usize) -> Result<Vec<Transfer>, AllocError>
+    fn unfinished_copies(&self, index: usize) -> Result<Vec<Transfer>, NoMemory>
         requires { index < channels self.now.view }
         ensures { let c = channel (object_of self.now.view) index in
             IfOk result (λ list. list.items ≡ drop (length c.outcomes) c.submitted) }

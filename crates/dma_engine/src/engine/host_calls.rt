@@ -9,13 +9,13 @@ use crate::access::Access;
 use crate::call::{Call, Reply};
 use crate::engine::Engine;
 use crate::entry::{Entry, Signaller};
-use crate::fault::EngineFault;
+use crate::fault::{EngineFault, NoMemory};
 use dma_mem::limits::LAST_EVENT;
 use dma_mem::lists::Bytes;
 use dma_mem::marks::{MarkKind, Marks};
 use dma_mem::memory::Memory;
 use dma_mem::segment::Segment;
-use std::alloc::{AllocError, Global};
+use std::alloc::Global;
 
 impl Engine {
     /// Writes bytes to consecutive addresses, starting at `addr`.
@@ -30,15 +30,6 @@ impl Engine {
         self.check_write(addr, bytes)?;
         let kept = Bytes::from_slice(self.alloc, bytes)?;
         self.write_checked(addr, kept)
-    }
-
-    /// Writes bytes like `write`, but moves them into the history without a copy. On an error the bytes are dropped.
-    pub fn write_owned(&mut self, addr: u32, bytes: Bytes) -> Result<(), EngineFault>
-        ensures answer { CallAnswers self.old.view (Call.Write addr bytes) (done_reply result)
-            self.new.view }
-    {
-        self.check_write(addr, bytes.as_slice())?;
-        self.write_checked(addr, bytes)
     }
 
     // Fails if a write is refused for any reason other than memory.
@@ -88,15 +79,6 @@ impl Engine {
         let kept = Bytes::from_slice(self.alloc, answer.as_slice())?;
         self.add_read(addr, len, kept)?;
         Ok(answer)
-    }
-
-    /// Reads bytes like `read`, but returns no copy of them. They are in the history's last entry.
-    pub fn read_back(&mut self, addr: u32, len: u32) -> Result<(), EngineFault>
-        ensures answer { CallAnswers self.old.view (Call.Read addr len)
-            (reply_of (λ _. Reply.Bytes (bytes_in self.old.view addr len)) result) self.new.view }
-    {
-        let bytes = self.bytes_read(addr, len)?;
-        self.add_read(addr, len, bytes)
     }
 
     /// Reads bytes like `read`, into all of `out`. On an error `out` is unchanged.
@@ -200,12 +182,12 @@ impl Engine {
 }
 
 // The bytes of a memory from an address on.
-fn bytes_of(alloc: Global, memory: &Memory, addr: u32, len: u32) -> Result<Bytes, AllocError>
+fn bytes_of(alloc: Global, memory: &Memory, addr: u32, len: u32) -> Result<Bytes, NoMemory>
     requires { addr + len ≤ length memory.now.image }
     ensures { IfOk result (λ bytes. bytes ≡ take len (drop addr memory.now.image)) }
 {
     if let Some(part) = memory.part(addr, len) {
-        return Bytes::from_slice(alloc, part);
+        return Ok(Bytes::from_slice(alloc, part)?);
     }
-    Bytes::from_vec(memory.to_vec(alloc, addr, len)?)
+    Ok(Bytes::from_vec(memory.to_vec(alloc, addr, len)?)?)
 }

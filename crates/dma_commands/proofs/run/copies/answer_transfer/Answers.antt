@@ -13,22 +13,21 @@ returns-then-is_in_use c =
     fit_runs (copied c.args.start.now v) v _ _ _ _ _ _ c.in-Ok.ensures.ok c.in-Ok.ensures.accepted
     (rw used (printed_runs (one_line (refused_line (codes "ChannelInUse")) v) v result _ _ (on_ok_weaker result (λ _. refl) print.ok) print.ok print.err))
 
-pub returns-in-Err-submit : goal.returns-in-Err-submit
-returns-in-Err-submit c =
+pub returns-then-is_refused : goal.returns-then-is_refused
+returns-then-is_refused c =
     let v = c.args.engine.now.view in
     let start = c.args.start.now in
-    let result = c.print_line-in-Err-submit.result in
-    let print = c.print_line-in-Err-submit.ensures in
+    let print = c.print_line-then-is_refused.ensures in
     fit_runs (copied start v) v _ _ _ _ _ _ c.in-Ok.ensures.ok c.in-Ok.ensures.accepted
-    (refused_copy_runs start v c.in-Ok.transfer (sym c.is_in_use.ensures ∙ c.if-is_in_use.false) _ c.in-Err-submit.refused.fault result _ _
-    c.in-Err-submit.ensures.answer (on_ok_weaker result (λ p. p.1) print.printed) print.ok print.err)
+    (refused_copy_runs start v c.in-Ok.transfer (sym c.is_in_use.ensures ∙ c.if-is_in_use.false) _ c.in_ok-submitted.submitted _ _ _
+    c.in_ok-submitted.ensures.answer (sym c.is_refused.ensures ∙ c.if-is_refused.true) print.ok print.err)
 
-pub returns-in_ok-last-in-Ok-submit : goal.returns-in_ok-last-in-Ok-submit
-returns-in_ok-last-in-Ok-submit c =
+pub returns : goal.returns
+returns c =
     let v = c.args.engine.now.view in
     let start = c.args.start.now in
-    let print = c.print_line-in-Ok-submit.ensures in
+    let print = c.print_line-2.ensures in
     fit_runs (copied start v) v _ _ _ _ _ _ c.in-Ok.ensures.ok c.in-Ok.ensures.accepted
-    (copy_runs start v c.in-Ok.transfer (sym c.is_in_use.ensures ∙ c.if-is_in_use.false) c.submit.new.self.view c.reply_to.new.engine.view _ _ _
-    c.in_ok-last-in-Ok-submit.last _ _ _ c.in-Ok-submit.ensures.answer c.in_ok-reply_to-in-Ok-submit.ensures.answer
-    c.in_ok-last-in-Ok-submit.ensures print.ok print.err)
+    (copy_runs start v c.in-Ok.transfer (sym c.is_in_use.ensures ∙ c.if-is_in_use.false) c.reply_to.new.engine.view c.reply_to-2.new.engine.view _
+    c.in_ok-submitted.submitted c.in_ok-reply_to.field-0 c.in_ok-last.last _ _ _ c.in_ok-submitted.ensures.answer
+    (sym c.is_refused.ensures ∙ c.if-is_refused.false) c.in_ok-reply_to.ensures.answer c.in_ok-last.ensures print.ok print.err)

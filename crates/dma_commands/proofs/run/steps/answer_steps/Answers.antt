@@ -1,44 +1,65 @@
-use Rattle.std.proofs.Common.{◌≡◌, ◌≤◌, ◌+◌, ◌-◌, ◌++◌, [], ◌∙◌, List, ℕ, ap, map, arith, refl}
+use Rattle.std.proofs.Common.{◌≡◌, ◌≤◌, ◌+◌, ◌-◌, ◌++◌, [], ◌∙◌, List, ℕ, ap, length, map, subst, sym, take, arith}
 use Rattle.std.specs.Prelude.{replicate}
-use Rattle.std.proofs.{lemmas.List.append-nil, lemmas.Result.on_ok_weaker}
+use Rattle.std.proofs.{lemmas.List.append-nil, lemmas.List.length-replicate, lemmas.List.take-replicate, lemmas.Result.on_ok_weaker}
 use Rattle.dma_mem.specs.declared.call.Call.TheVariants.{Step}
-use Rattle.dma_engine.specs.Answer.{answers}
+use Rattle.dma_engine.specs.{Answer.AreAnswers, Answer.answers, declared.call.Reply.Reply}
 use Rattle.dma_io.specs.Command.{text_of}
 use Rattle.dma_commands.specs.{Printed.reply_text, Run.step_answer, Run.step_lines}
-use Rattle.dma_commands.proofs.{RunLemmas.printed_runs, StepLemmas.ended, StepLemmas.more_view, StepLemmas.more_texts, Advances.whole_runs}
+use Rattle.dma_commands.proofs.{ListLemmas.answers_length, RunLemmas.printed_runs, StepLemmas.ended, StepLemmas.list_texts, StepLemmas.list_view}
 use Rattle.dma_commands.proofs.run.steps.answer_steps.Goals as goal
 
-pub loop-left-init : goal.loop-left-init
-loop-left-init c = grind arith
+pub take_all-requires : goal.take_all-requires
+take_all-requires c =
+    let ch = c.args.ch in
+    let step = Step ch in
+    let many = c.min-many.result in
+    let left = c.loop-left.left in
+    let inv = c.loop-left.invariant in
+    let few : many ≤ 1024 = omega (arith, c.min-many.ensures) in
+    let within : many ≤ left = omega (arith, c.min-many.ensures) in
+    let calls : c.push_calls.new.calls.items ≡ replicate 1024 step = c.in_ok-push_calls.ensures.ok
+    ∙ ap (λ l. l ++ replicate 1024 step) c.new-calls.ensures.items in
+    let row : take many c.deref.result.now ≡ replicate many step = ap (take many) (c.deref.ensures.value ∙ calls) ∙ take-replicate many 1024 step few in
+    let replies = c.deref-in-loop-left.result.now in
+    let are : AreAnswers c.loop-left.engine.view (take many c.deref.result.now) replies c.run.new.engine.view =
+    subst (λ (r : List Reply). AreAnswers c.loop-left.engine.view (take many c.deref.result.now) r c.run.new.engine.view)
+    (sym c.deref-in-loop-left.ensures.value) c.in-Ok.ensures.answers in
+    let len : length replies ≡ many = answers_length _ _ _ _ are ∙ ap length row ∙ length-replicate many step in
+    omega (arith, inv.counted, inv.left, within, len, c.ranges.count.fits)
 
 pub loop-left-preserved : goal.loop-left-preserved
 loop-left-preserved c =
     let v = c.args.engine.now.view in
     let w = c.loop-left.engine.view in
-    let u = c.advance-next.new.self.view in
-    let step = Step c.args.ch in
-    let is = c.advance-next.ensures.answers in
-    let inv = c.loop-left.invariant in
+    let u = c.run.new.engine.view in
+    let ch = c.args.ch in
+    let step = Step ch in
+    let many = c.min-many.result in
     let left = c.loop-left.left in
-    let many = c.in_ok-more.more in
-    let within : many ≤ left = c.in_ok-more.ensures.many.1 in
+    let inv = c.loop-left.invariant in
+    let few : many ≤ 1024 = omega (arith, c.min-many.ensures) in
+    let within : many ≤ left = omega (arith, c.min-many.ensures) in
+    let calls : c.push_calls.new.calls.items ≡ replicate 1024 step = c.in_ok-push_calls.ensures.ok
+    ∙ ap (λ l. l ++ replicate 1024 step) c.new-calls.ensures.items in
+    let row : take many c.deref.result.now ≡ replicate many step = ap (take many) (c.deref.ensures.value ∙ calls) ∙ take-replicate many 1024 step few in
+    let replies = c.deref-in-loop-left.result.now in
+    let are : AreAnswers c.loop-left.engine.view (take many c.deref.result.now) replies c.run.new.engine.view =
+    subst (λ (r : List Reply). AreAnswers c.loop-left.engine.view (take many c.deref.result.now) r c.run.new.engine.view)
+    (sym c.deref-in-loop-left.ensures.value) c.in-Ok.ensures.answers in
+    let len : length replies ≡ many = answers_length _ _ _ _ are ∙ ap length row ∙ length-replicate many step in
     let sum : (c.args.count - left) + many ≡ c.args.count - (left - many) = omega (arith, within, inv.left) in
+    let take_all = c.in_ok-take_all.ensures in
     record {
       left = omega (arith, inv.left);
-      counted = omega (arith, c.in_ok-more.ensures.count, inv.counted, within, inv.left);
-      view = c.in_ok-more.ensures.view w u is ∙ more_view v w step _ (c.args.count - left) many _ sum inv.view refl;
-      text = λ rest. c.in_ok-more.ensures.text w u is rest ∙ inv.text _
-          ∙ ap (λ l. text_of (step_lines c.args.ch l)) (more_texts v w step _ (c.args.count - left) many _ rest sum inv.view refl);
+      counted = omega (arith, take_all.count, inv.counted, within, inv.left, len);
+      view = list_view v w u step (take many c.deref.result.now) replies (c.args.count - left) many _ sum inv.view row are take_all.memory;
+      text = λ rest. take_all.text rest ∙ inv.text (map reply_text replies ++ rest)
+          ∙ ap (λ l. text_of (step_lines ch l))
+          (list_texts v w u step (take many c.deref.result.now) replies (c.args.count - left) many _ rest sum inv.view row are take_all.memory);
     }
 
 pub returns : goal.returns
 returns c =
-    whole_runs c.args.engine.now.view c.advance-first.new.self.view c.args.ch c.args.count c.advance-first.result c.advance-first.ensures.answers
-    c.if-first-gt0.true c.if-count-first-eq2.true (c.in-Some.started, c.in-Some.finished) c.print_transfer.result c.args.out.now.items
-    c.print_transfer.new.out.items c.in-Some.ensures c.print_transfer.ensures.ok c.print_transfer.ensures.err
-
-pub returns-2 : goal.returns-2
-returns-2 c =
     let v = c.args.engine.now.view in
     let ch = c.args.ch in
     let steps = c.loop-left.steps in
