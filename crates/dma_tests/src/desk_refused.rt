@@ -130,7 +130,7 @@ fn at_a_desk<N: DeskName, R: Wait + Print>(
     mut readers: Vec<StatusReader>,
     row: Row,
 ) -> Result<bool, Fail>
-    requires { Names N.opening N.base N.table parts }
+    requires { Names N.opening N.base N.log parts }
 {
     let (name, asked, wanted) = row;
     let mut desk = Desk::<N>::new(parts);

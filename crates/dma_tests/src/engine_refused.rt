@@ -1,9 +1,10 @@
-//! Calls that C can't make, which run out of memory and are then made again: those that take bytes over or leave them
-//! in the history, that copy a transfer, and that make room. `tests/refuse_calls` lets each allocation of this test
+//! Calls that C can't make, which run out of memory and are then made again: those that copy bytes or a transfer, lists
+//! of calls, and those that make room. `tests/refuse_calls` lets each allocation of this test
 //! fail in turn; each row must be out of memory in some run. That a call that is out of memory changes nothing is in
 //! its contract.
 
 use crate::transfers::copy;
+use dma_engine::run::run;
 use dma_engine::{Call, Engine, EngineFault, Reply};
 use dma_mem::lists::Bytes;
 use std::alloc::Global;
@@ -11,9 +12,8 @@ use std::test::Fail;
 
 #[derive(Clone, Copy)]
 enum Asked {
-    WriteOwned,
+    Run,
     Read,
-    ReadBack,
     Submit,
     MakeRoom,
     Reserve,
@@ -30,15 +30,38 @@ fn submit(alloc: Global, engine: &mut Engine) -> Result<(), EngineFault> {
     }
 }
 
+// Runs a list of two calls.
+fn run_list(alloc: Global, engine: &mut Engine) -> Result<(), EngineFault> {
+    let bytes = Bytes::from_slice(alloc, &[7, 8, 9])?;
+    let calls = [
+        Call::Write {
+            addr: 0x3FFE,
+            bytes,
+        },
+        Call::Read {
+            addr: 0x3FFE,
+            len: 4,
+        },
+    ];
+    let Ok(replies) = run(alloc, engine, &calls) else {
+        return Err(EngineFault::NoMemory);
+    };
+    for reply in &replies {
+        if let Reply::Refused(fault) = reply {
+            return Err(*fault);
+        }
+    }
+    Ok(())
+}
+
 // Makes a call. The bytes lie in two chunks of memory, neither of which is made.
 fn make(alloc: Global, engine: &mut Engine, asked: Asked) -> Result<(), EngineFault> {
     match asked {
-        Asked::WriteOwned => engine.write_owned(0x3FFE, Bytes::from_slice(alloc, &[7, 8, 9])?),
+        Asked::Run => run_list(alloc, engine),
         Asked::Read => {
             engine.read(0x3FFE, 4)?;
             Ok(())
         }
-        Asked::ReadBack => engine.read_back(0x3FFE, 4),
         Asked::Submit => submit(alloc, engine),
         Asked::MakeRoom => engine.make_room(0),
         Asked::Reserve => Ok(engine.reserve_entries(3)?),
@@ -57,9 +80,8 @@ fn made(alloc: Global, asked: Asked) -> Result<(Result<(), EngineFault>, bool), 
 #[test]
 fn calls_are_made_again(rt: HostRuntime) -> Result<(), Fail> {
     let rows = [
-        ("write_owned", Asked::WriteOwned),
+        ("run", Asked::Run),
         ("read", Asked::Read),
-        ("read_back", Asked::ReadBack),
         ("carry_out", Asked::Submit),
         ("make_room", Asked::MakeRoom),
         ("reserve_entries", Asked::Reserve),

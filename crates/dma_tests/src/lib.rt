@@ -4,6 +4,8 @@
 #![tactic(auto)]
 
 #[cfg(test)]
+mod ahead;
+#[cfg(test)]
 mod blocks;
 #[cfg(test)]
 mod chip;
@@ -14,13 +16,23 @@ mod engine_refused;
 #[cfg(test)]
 mod example;
 #[cfg(test)]
+mod gates;
+#[cfg(test)]
 mod lists;
 #[cfg(test)]
 mod memory_refused;
 #[cfg(test)]
+mod rounds;
+#[cfg(test)]
+mod statuses;
+#[cfg(test)]
+mod stops;
+#[cfg(test)]
 mod streams;
 #[cfg(test)]
 mod transfers;
+#[cfg(test)]
+mod transfers_refused;
 #[cfg(test)]
 mod turns;
 #[cfg(test)]

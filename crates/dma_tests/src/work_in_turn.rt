@@ -6,7 +6,7 @@ use dma_engine::{Engine, EngineFault, Entry, Outcome, Running, Signaller};
 use dma_mem::marks::MarkKind;
 use dma_mem::segment::Segment;
 use dma_mem::transfer::Transfer;
-use dma_work::{InARow, Job, Totals};
+use dma_work::{Job, NoGate, Totals};
 use std::alloc::Global;
 use std::process::Abort;
 use std::sync::Wait;
@@ -147,19 +147,17 @@ fn paused_and_halted(alloc: Global) -> Result<Engine, Fail> {
     Ok(engine)
 }
 
-// Runs two jobs at a desk, whose workers take up to `row` turns in a row, and which ends with the first `reported`
-// tallies. Checks that its engine equals the other one, now and after further steps. Returns the totals, and whether
-// the desk was settled.
+// Runs two jobs at a desk, which ends with the first `reported` tallies. Checks that its engine equals the other one,
+// now and after further steps. Returns the totals, and whether the desk was settled.
 fn totals_of<R: Threads + Wait + Sync + Abort + Print>(
     rt: &R,
     alloc: Global,
     jobs: [Job; 2],
-    row: u32,
     reported: usize,
     mut that: Engine,
 ) -> Result<(Totals, bool), Fail> {
     let engine = paused_and_halted(alloc)?;
-    let (ended, _) = worked(rt, alloc, engine, jobs, &InARow(row), reported)?;
+    let (ended, _) = worked(rt, alloc, engine, jobs, &NoGate, reported)?;
     let (mut this, totals, is_settled) = ended;
     compare(rt, alloc, &mut this, &mut that)?;
     Ok((totals, is_settled))
@@ -176,32 +174,11 @@ fn a_desk_ends_as_the_steps_do(rt: HostRuntime) -> Result<(), Fail> {
         finished: 0,
         terminated: 0,
     };
-    for (row, reported) in [(1, 0), (0, 1), (4, 2)] {
+    for reported in 0..3 {
         let mut that = paused_and_halted(rt.alloc())?;
         step_often(&mut that, 21);
-        let (totals, is_settled) = totals_of(&rt, rt.alloc(), [job, idle], row, reported, that)?;
+        let (totals, is_settled) = totals_of(&rt, rt.alloc(), [job, idle], reported, that)?;
         assert!(rt; totals == wanted && is_settled == (reported > 0));
-    }
-    Ok(())
-}
-
-// The copy of channel 2 starts, finishes after eight steps, and nothing is left to do in the other turns.
-#[test]
-fn rows_of_one_channel_end_as_the_steps_do(rt: HostRuntime) -> Result<(), Fail> {
-    let job = Job::new(2, 2, 21).ok_or("no job")?;
-    let idle = Job::new(3, 3, 21).ok_or("no job")?;
-    let wanted = Totals {
-        steps: 8,
-        finished: 1,
-        terminated: 0,
-    };
-    for row in [1, 4, 9, 100] {
-        let mut that = paused_and_halted(rt.alloc())?;
-        for _ in 0..21 {
-            let _ = that.step(2);
-        }
-        let (totals, is_settled) = totals_of(&rt, rt.alloc(), [job, idle], row, 1, that)?;
-        assert!(rt; totals == wanted && is_settled);
     }
     Ok(())
 }

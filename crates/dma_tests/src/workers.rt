@@ -119,7 +119,7 @@ fn shared_by<N: DeskName + Send + Sync, R: Threads + Wait + Sync + Abort + Print
     gate: &G,
     reported: usize,
 ) -> Result<(Ended, Option<Status>), Fail>
-    requires { Names N.opening N.base N.table parts }
+    requires { Names N.opening N.base N.log parts }
 {
     let shared = Shared::<N>::new(parts);
     let Some(reader) = reader else {
