@@ -29,6 +29,7 @@ use dma_explain::explain::Cause;
 use dma_io::progress::Progress;
 use dma_mem::events::Events;
 use dma_mem::marks::{MarkKind, Marks};
+use dma_mem::no_memory::NoMemory;
 use dma_mem::regions::Region;
 use dma_mem::segment::Segment;
 use dma_text::text::Text;
@@ -57,7 +58,7 @@ fn step(
 }
 
 // Returns marks at which loads and stores fail.
-fn failing_marks(alloc: Global, failing: &[Segment]) -> Result<Marks, AllocError>
+fn failing_marks(alloc: Global, failing: &[Segment]) -> Result<Marks, NoMemory>
     ensures { IfOk result (λ marks. marks ≡ marks_at failing.now) }
 {
     let mut marks = Marks::new(alloc);
@@ -208,8 +209,12 @@ pub(crate) fn trace_all<P: Progress>(
         LongProgram.push(err)?;
         return Ok(false);
     }
-    let marks = failing_marks(alloc, &options.failing)?;
-    let mut channel = Channel::new(alloc)?;
+    let Ok(marks) = failing_marks(alloc, &options.failing) else {
+        return Err(AllocError);
+    };
+    let Ok(mut channel) = Channel::new(alloc) else {
+        return Err(AllocError);
+    };
     channel.load_bytes(program, Registers::start(options.bus));
     let good = run(
         alloc,

@@ -94,7 +94,7 @@ impl Point {
         ensures { result ≡ point_of steps channel.now }
     {
         Point {
-            ahead: channel.ahead(),
+            ahead: channel.ahead_on_bus(),
             steps,
             front: Front {
                 registers: channel.registers(),

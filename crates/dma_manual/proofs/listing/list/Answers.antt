@@ -1,3 +1,4 @@
+use Rattle.dma_text.proofs.Begun.{begun}
 use Rattle.std.proofs.Common.{arith, length, sym, ◌∙◌}
 use Rattle.dma_text.proofs.Begun.{begins_more}
 use Rattle.dma_manual.specs.Listing.{listed}
@@ -26,3 +27,45 @@ returns-then-is_end-clause-out c =
     c.in_ok-push_line-in-Ok.ensures.ok c.push_rest.new.out.items c.args.out.now.items (listed c.args.at c.args.program.now) (length c.split_at.result.1.now)
     (sym c.if-is_end.ensures) (omega (arith, c.split_at.ensures.back_len)) c.in_ok-push_rest-in-Ok.ensures.ok c.loop-rest.invariant.text
     c.loop-rest.invariant.ending
+
+pub returns-clause-err_begins : goal.returns-clause-err_begins
+returns-clause-err_begins c = grind (arith, begun)
+
+pub returns-clause-out_begins : goal.returns-clause-out_begins
+returns-clause-out_begins c = grind (arith, begun)
+
+pub returns-in-Err-clause-err_begins : goal.returns-in-Err-clause-err_begins
+returns-in-Err-clause-err_begins c = grind (arith, begun)
+
+pub returns-in-Err-clause-out_begins : goal.returns-in-Err-clause-out_begins
+returns-in-Err-clause-out_begins c = grind (arith, begun)
+
+pub returns-in_err-push_label-in-Ok-clause-err_begins : goal.returns-in_err-push_label-in-Ok-clause-err_begins
+returns-in_err-push_label-in-Ok-clause-err_begins c = grind (arith, begun)
+
+pub returns-in_err-push_label-in-Ok-clause-out_begins : goal.returns-in_err-push_label-in-Ok-clause-out_begins
+returns-in_err-push_label-in-Ok-clause-out_begins c = grind (arith, begun)
+
+pub returns-in_err-push_line-in-Ok-clause-err_begins : goal.returns-in_err-push_line-in-Ok-clause-err_begins
+returns-in_err-push_line-in-Ok-clause-err_begins c = grind (arith, begun)
+
+pub returns-in_err-push_line-in-Ok-clause-out_begins : goal.returns-in_err-push_line-in-Ok-clause-out_begins
+returns-in_err-push_line-in-Ok-clause-out_begins c = grind (arith, begun)
+
+pub returns-in_err-push_rest-in-Ok-clause-err_begins : goal.returns-in_err-push_rest-in-Ok-clause-err_begins
+returns-in_err-push_rest-in-Ok-clause-err_begins c = grind (arith, begun)
+
+pub returns-in_err-push_rest-in-Ok-clause-out_begins : goal.returns-in_err-push_rest-in-Ok-clause-out_begins
+returns-in_err-push_rest-in-Ok-clause-out_begins c = grind (arith, begun)
+
+pub returns-in_err-push_stop-in-Err-clause-err_begins : goal.returns-in_err-push_stop-in-Err-clause-err_begins
+returns-in_err-push_stop-in-Err-clause-err_begins c = grind (arith, begun)
+
+pub returns-in_err-push_stop-in-Err-clause-out_begins : goal.returns-in_err-push_stop-in-Err-clause-out_begins
+returns-in_err-push_stop-in-Err-clause-out_begins c = grind (arith, begun)
+
+pub returns-then-is_end-clause-err_begins : goal.returns-then-is_end-clause-err_begins
+returns-then-is_end-clause-err_begins c = grind (arith, begun)
+
+pub returns-then-is_end-clause-out_begins : goal.returns-then-is_end-clause-out_begins
+returns-then-is_end-clause-out_begins c = grind (arith, begun)

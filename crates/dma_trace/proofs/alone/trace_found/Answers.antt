@@ -1,3 +1,5 @@
+use Rattle.std.proofs.Common.{arith}
+use Rattle.dma_text.proofs.Begun.{begun}
 use Rattle.std.proofs.lemmas.Result.{IfOk-weaker}
 use Rattle.dma_chan.specs.Exec.{start_on}
 use Rattle.dma_trace.specs.Found.{most_explained}
@@ -16,3 +18,48 @@ returns-in_ok-ranges-in-Some-clause-ok g c =
     IfOk-weaker c.trace_over.result _ _ (λ good. shown_alone c.args.options.now c.args.program.now c.in-Some.found c.in_ok-ranges-in-Some.ranges.items _ found.0
     good _ _ _ _ _ _ _ c.deref.ensures.value c.in_ok-ranges-in-Some.ensures.order c.in_ok-ranges-in-Some.ensures.places found.2)
     c.trace_over.ensures.ok
+
+pub returns-in_err-found-clause-begins : goal.returns-in_err-found-clause-begins
+returns-in_err-found-clause-begins g c = grind (arith, begun)
+
+pub returns-in_err-found-clause-begins_err : goal.returns-in_err-found-clause-begins_err
+returns-in_err-found-clause-begins_err g c = grind (arith, begun)
+
+pub returns-in_err-found-clause-begins_wave : goal.returns-in_err-found-clause-begins_wave
+returns-in_err-found-clause-begins_wave g c = grind (arith, begun)
+
+pub returns-in_err-push-in-None-clause-begins : goal.returns-in_err-push-in-None-clause-begins
+returns-in_err-push-in-None-clause-begins g c = grind (arith, begun)
+
+pub returns-in_err-push-in-None-clause-begins_err : goal.returns-in_err-push-in-None-clause-begins_err
+returns-in_err-push-in-None-clause-begins_err g c = grind (arith, begun)
+
+pub returns-in_err-push-in-None-clause-begins_wave : goal.returns-in_err-push-in-None-clause-begins_wave
+returns-in_err-push-in-None-clause-begins_wave g c = grind (arith, begun)
+
+pub returns-in_err-ranges-in-Some-clause-begins : goal.returns-in_err-ranges-in-Some-clause-begins
+returns-in_err-ranges-in-Some-clause-begins g c = grind (arith, begun)
+
+pub returns-in_err-ranges-in-Some-clause-begins_err : goal.returns-in_err-ranges-in-Some-clause-begins_err
+returns-in_err-ranges-in-Some-clause-begins_err g c = grind (arith, begun)
+
+pub returns-in_err-ranges-in-Some-clause-begins_wave : goal.returns-in_err-ranges-in-Some-clause-begins_wave
+returns-in_err-ranges-in-Some-clause-begins_wave g c = grind (arith, begun)
+
+pub returns-in_ok-push-in-None-clause-begins : goal.returns-in_ok-push-in-None-clause-begins
+returns-in_ok-push-in-None-clause-begins g c = grind (arith, begun)
+
+pub returns-in_ok-push-in-None-clause-begins_err : goal.returns-in_ok-push-in-None-clause-begins_err
+returns-in_ok-push-in-None-clause-begins_err g c = grind (arith, begun)
+
+pub returns-in_ok-push-in-None-clause-begins_wave : goal.returns-in_ok-push-in-None-clause-begins_wave
+returns-in_ok-push-in-None-clause-begins_wave g c = grind (arith, begun)
+
+pub returns-in_ok-ranges-in-Some-clause-begins : goal.returns-in_ok-ranges-in-Some-clause-begins
+returns-in_ok-ranges-in-Some-clause-begins g c = grind (arith, begun)
+
+pub returns-in_ok-ranges-in-Some-clause-begins_err : goal.returns-in_ok-ranges-in-Some-clause-begins_err
+returns-in_ok-ranges-in-Some-clause-begins_err g c = grind (arith, begun)
+
+pub returns-in_ok-ranges-in-Some-clause-begins_wave : goal.returns-in_ok-ranges-in-Some-clause-begins_wave
+returns-in_ok-ranges-in-Some-clause-begins_wave g c = grind (arith, begun)

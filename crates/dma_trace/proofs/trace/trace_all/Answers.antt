@@ -1,3 +1,5 @@
+use Rattle.std.proofs.Common.{arith}
+use Rattle.dma_text.proofs.Begun.{begun}
 use Rattle.std.proofs.Common.{◌≡◌, ◌++◌, ℕ, List, ap, append_assoc, inr, map, refl, subst, ◌∙◌}
 use Rattle.std.specs.Prelude.{flat_map}
 use Rattle.dma_mem.specs.{declared.segment.Segment.Segment, Lent.marks_at, Marking.MarkList, Regions.Piece, Regions.image_of, Regions.pieces_of}
@@ -21,7 +23,7 @@ returns-clause-ok g c =
     ∙ ap (λ (xs : List Segment). c.run.new.out.items ++ flat_map (dump_text (pieces_of left)) xs) c.deref-2.ensures.value in
     let w = subst (λ (m : MarkList). RunsOver o (with_gaps_of first m) c.args.program.now first left c.in_ok-good.good c.args.out.now.items c.args.err.now.items
     c.args.wave.now.items c.run.new.out.items c.run.new.err.items c.run.new.wave.items)
-    (c.in_ok-marks.ensures ∙ ap marks_at c.deref.ensures.value) c.in_ok-good.ensures.ok in
+    (c.in-Ok.ensures ∙ ap marks_at c.deref.ensures.value) c.in_ok-good.ensures.ok in
     let marks = marks_over o first in
     let s = opening o c.args.program.now (image_of (pieces_of first)) in
     let end = end_after o marks s w.count in
@@ -50,3 +52,48 @@ returns-clause-ok g c =
         },
       );
     }
+
+pub returns-clause-begins : goal.returns-clause-begins
+returns-clause-begins g c = grind (arith, begun)
+
+pub returns-clause-begins_err : goal.returns-clause-begins_err
+returns-clause-begins_err g c = grind (arith, begun)
+
+pub returns-clause-begins_wave : goal.returns-clause-begins_wave
+returns-clause-begins_wave g c = grind (arith, begun)
+
+pub returns-in_err-good-clause-begins : goal.returns-in_err-good-clause-begins
+returns-in_err-good-clause-begins g c = grind (arith, begun)
+
+pub returns-in_err-good-clause-begins_err : goal.returns-in_err-good-clause-begins_err
+returns-in_err-good-clause-begins_err g c = grind (arith, begun)
+
+pub returns-in_err-good-clause-begins_wave : goal.returns-in_err-good-clause-begins_wave
+returns-in_err-good-clause-begins_wave g c = grind (arith, begun)
+
+pub returns-in_err-push-clause-begins : goal.returns-in_err-push-clause-begins
+returns-in_err-push-clause-begins g c = grind (arith, begun)
+
+pub returns-in_err-push-clause-begins_err : goal.returns-in_err-push-clause-begins_err
+returns-in_err-push-clause-begins_err g c = grind (arith, begun)
+
+pub returns-in_err-push-clause-begins_wave : goal.returns-in_err-push-clause-begins_wave
+returns-in_err-push-clause-begins_wave g c = grind (arith, begun)
+
+pub returns-in_err-push_dumps-clause-begins : goal.returns-in_err-push_dumps-clause-begins
+returns-in_err-push_dumps-clause-begins g c = grind (arith, begun)
+
+pub returns-in_err-push_dumps-clause-begins_err : goal.returns-in_err-push_dumps-clause-begins_err
+returns-in_err-push_dumps-clause-begins_err g c = grind (arith, begun)
+
+pub returns-in_err-push_dumps-clause-begins_wave : goal.returns-in_err-push_dumps-clause-begins_wave
+returns-in_err-push_dumps-clause-begins_wave g c = grind (arith, begun)
+
+pub returns-then-program-gt-MAX_PROGRAM_BYTES-clause-begins : goal.returns-then-program-gt-MAX_PROGRAM_BYTES-clause-begins
+returns-then-program-gt-MAX_PROGRAM_BYTES-clause-begins g c = grind (arith, begun)
+
+pub returns-then-program-gt-MAX_PROGRAM_BYTES-clause-begins_err : goal.returns-then-program-gt-MAX_PROGRAM_BYTES-clause-begins_err
+returns-then-program-gt-MAX_PROGRAM_BYTES-clause-begins_err g c = grind (arith, begun)
+
+pub returns-then-program-gt-MAX_PROGRAM_BYTES-clause-begins_wave : goal.returns-then-program-gt-MAX_PROGRAM_BYTES-clause-begins_wave
+returns-then-program-gt-MAX_PROGRAM_BYTES-clause-begins_wave g c = grind (arith, begun)
