@@ -76,9 +76,9 @@ def words_from_nothing(tree, name):
     return [rtlib.RATTLE, "check", *crate.words(["--jobs", "1"], keeps=False)] if is_built else None
 
 
-def prove_anew(board, tree, name):
+def prove_anew(board, tree, name, _jobs):
     """Proves a crate from nothing, over the libraries as they are built, and keeps the prover's lines. Returns the
-    output if that fails, else None."""
+    output if that fails, else None. It takes one processor, so that a verdict has no more parts than it needs."""
     tree += "-anew"
     lay_out(tree, name, SOURCES + ["out/rlib"], SOURCES)
     try:
