@@ -75,13 +75,17 @@ fn answer_some(engine: &mut Engine, calls: &[Call], replies: &mut Vec<Reply>) ->
     1
 }
 
-// Returns how many of these calls are steps of a channel, up to the first other one.
+// The most steps that are counted ahead. A list is looked at again after each transfer that finishes among its steps, so
+// counting all of them would take quadratic time.
+const MOST_AHEAD: u32 = 1_024;
+
+// Returns how many of these calls are steps of a channel, up to the first other one, at most `MOST_AHEAD`.
 fn steps_ahead(ch: u8, calls: &[Call]) -> u32
     ensures few { result ≤ length calls.now }
     ensures steps { take result calls.now ≡ replicate result (Call.Step ch) }
 {
     let mut count: u32 = 0;
-    while count < u32::MAX
+    while count < MOST_AHEAD
         && (count as usize) < calls.len()
         && let Call::Step { ch: other } = &calls[count as usize]
         && *other == ch

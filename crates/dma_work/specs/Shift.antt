@@ -105,8 +105,8 @@ abbrev pub IsInTurn : View → List Job → View → Totals → List Seat → Ty
 IsInTurn opening jobs view book seats =
     (jobs_of seats ≡ jobs) × TookTurnsOn opening (map channels_taken seats) view book
 
--- From the opening view on, some turns of these jobs were taken, and nothing else was done. Then the next turn of one of
--- the jobs takes memory, and so a shift may be out of memory.
+-- Some turns of these jobs, taken from the opening view on with nothing else done, come to where the next turn of one of
+-- the jobs takes memory. They needn't be those that a shift took.
 pub record MayRunOut (opening : View) (jobs : List Job) : Type 0 where
   pub view : View
   pub book : Totals

@@ -154,9 +154,9 @@ impl<N: DeskName> Desk<N> {
     }
 
     /// Lets a reader learn what is published, and returns the status of a cookie that the reader then returns, like
-    /// [`Desk::status`]. The reader has seen exactly what is published, and this begins with all that the reader had
-    /// seen or learnt. N names the reader's list. The reader has learnt also if it returns `None`; that it never does so
-    /// is tested, not proved.
+    /// [`Desk::status`]. If it returns a status, the reader has seen exactly what is published, and this begins with all
+    /// that the reader had seen or learnt. N names the reader's list. The reader has learnt also if it returns `None`;
+    /// that it never does so is tested, not proved.
     pub fn status_by_reader(&self, reader: &mut StatusReader, ch: u8, cookie: u32) -> Option<Status>
         requires { (N.log ≡ reader.old.log) × (N.base ≡ reader.old.base) }
         ensures status { IfSome result

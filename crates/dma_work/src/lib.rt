@@ -8,10 +8,10 @@
 //! terminate after it (`Desk`); a worker passes its gate for each turn, steps the channels of its job in rotation, one
 //! for each turn, and does nothing else ([`work_at`]); the tallies and the book count each step once, and a desk is
 //! settled if their sums agree (`Desk::settle`, [`settle`]); a shift that ends with a desk has taken all turns of its
-//! jobs, interleaved, and done nothing else, and one that fails came to a turn that takes memory ([`run_shift`]); a
-//! status is that of a published list that begins with all that the reader has seen and learnt
-//! (`StatusReader::status`, `laws::statuses_stay_true`); if a reader answers at a desk, it has seen exactly what that
-//! desk published (`Desk::status_by_reader`).
+//! jobs, interleaved, and done nothing else, and one that fails has jobs whose turns, in some order, come to one that
+//! takes memory ([`run_shift`]); a status is that of a published list that begins with all that the reader has seen and
+//! learnt (`StatusReader::status`, `laws::statuses_stay_true`); if a reader answers at a desk, it has seen exactly what
+//! that desk published (`Desk::status_by_reader`).
 //!
 //! Not proved: progress; that no turn of a shift is out of memory; that workers run at the same time; when a gate is
 //! passed; which desk of its name a lock holds when it is taken, and so that [`work`], which sees the lock, does nothing
