@@ -1,25 +1,26 @@
 // A DMA-330 for SystemC and TLM-2.0 (loosely timed), over the verified library dma330.h. Header only; C++11 or later.
+// README.md has a whole platform, and explains what follows.
 //
 //     dma330_tlm dma("dma", {8, 32, 0, 64, 128, 3}, sc_core::sc_time(10, sc_core::SC_NS));
 //     bus.out.bind(dma.regs);  dma.mem.bind(bus.in);  dma.irq[5].bind(line);
 //
 // - `regs` takes the guest's accesses of registers: aligned, of 4 bytes, below 4 KiB. Others get an error response. A
 //   debug access reads any bytes at once, and writes none. An access needs 32 KiB of the calling process's stack.
-// - `mem` asks targets for DMI pointers; nothing else goes over it. The channels copy in memory that grants DMI, and
-//   fail elsewhere, as at an address that nothing has. The device asks in the ranges that lend() names. If none is
-//   named, it asks from address 0 on, and goes on after the range of each answer. Memory that is granted for reading
-//   alone is ROM. After an invalidate_direct_mem_ptr the device asks again for all, before its next turn or write of a
-//   register. A target that grants a range only after the device has asked for it makes this call, too. Memory at two
-//   addresses is used at one: if it is ROM at one of them, at the other, else at the lower.
+// - `mem` asks targets for DMI pointers; nothing else goes over it. The channels copy in memory that grants DMI. They
+//   fail elsewhere, as they do at an address where there is nothing. The device asks in the ranges that lend() names.
+//   If none is named, it asks from address 0 on, and goes on after the range of each answer. Memory that is granted for
+//   reading alone is ROM. After an invalidate_direct_mem_ptr the device asks again for all, before its next turn or
+//   write of a register. A target that grants a range only after the device has asked for it makes this call, too.
+//   Memory at two addresses is used at one of them. If it is ROM at one, it is used at the other; if not, at the lower.
 // - `irq[n]`, `irq_abort` and `reset` may be left unbound. While `reset` is high, the device stays as after a reset.
-// - `on_written` is called with each range that a turn wrote: drop the code that was translated from it.
-// - `most` is 256 if it isn't given: copies then move some 2.5 GB/s.
+// - `on_written` is called with each range that a turn wrote, so that code translated from it can be dropped.
+// - `most` is 256 if it isn't given: copies then move some 2.5 GB/s, as was measured.
 //
 // Time. A chip executes one instruction after another, of its channels in turn. So each step of a channel takes `step`,
 // and two channels that run take the sum of their steps. Here a channel's turn is up to `most` steps. When it begins,
-// its bytes are copied; then the time of its steps passes; then its lines change, at most one step after the DMASEV. An
-// access of a register that comes meanwhile waits for the end of the turn. So registers and lines are never early;
-// memory is, by less than a turn; and an INTCLR that comes less than a turn before a DMASEV may take effect after it. A
+// its bytes are copied. Then the time of its steps passes. Then its lines change, at most one step after the DMASEV. An
+// access of a register that comes meanwhile waits for the end of the turn. So registers and lines are never early.
+// Memory is, by less than a turn, and an INTCLR that comes less than a turn before a DMASEV may take effect after it. A
 // DMAWFE takes a step when it begins to wait, and one when it passes. A write to a register takes no time.
 #ifndef DMA330_TLM_H
 #define DMA330_TLM_H
