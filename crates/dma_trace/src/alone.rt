@@ -1,4 +1,5 @@
 //! A trace to which no RAM is given.
+#![tactic(auto, using(dma_text::proofs::Begun::begun))]
 
 ghost use Rattle.std.specs.Prelude.{◌≡◌, IfOk, IsTrue, map};
 ghost use Rattle.dma_mem.specs.Regions.{in_order};

@@ -1,4 +1,5 @@
 //! Offsets, numbers of bytes and instructions, and ranges of addresses, as text.
+#![tactic(auto, using(dma_text::proofs::Begun::begun))]
 
 ghost use Rattle.std.specs.Prelude.{◌≡◌};
 ghost use Rattle.dma_trace.specs.Words.{bytes_text, count_text, offset_text, range_text, times_text};

@@ -1,4 +1,5 @@
 //! Numbers, instructions and registers in columns.
+#![tactic(auto, using(dma_text::proofs::Begun::begun))]
 
 ghost use Rattle.std.specs.Prelude.{◌≡◌, ◌++◌, OnOk};
 ghost use Rattle.dma_text.specs.Text.{Begins};

@@ -1,4 +1,5 @@
 //! What a program copies and sets to 0, as text.
+#![tactic(auto, using(dma_text::proofs::Begun::begun))]
 
 ghost use Rattle.std.specs.Prelude.{◌≡◌, ◌<◌, ◌≤◌, ◌++◌, ℕ, OnOk, OnErr, IfOk, flat_map, length};
 ghost use Rattle.dma_insn.specs.AssemblyText.{most_program_bytes};

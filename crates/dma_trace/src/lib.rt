@@ -10,7 +10,7 @@
 //! (`IsRam`).
 //!
 //! Not proved: that memory is available.
-#![tactic(auto, using(dma_text::proofs::Begun::begun))]
+#![tactic(auto)]
 
 mod alone;
 mod amounts;

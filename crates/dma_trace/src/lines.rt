@@ -1,4 +1,5 @@
 //! The lines of a trace.
+#![tactic(auto, using(dma_text::proofs::Begun::begun))]
 
 ghost use Rattle.std.specs.Prelude.{◌≡◌, ◌+◌, ◌++◌, ◌<◌, ◌^◌, OnOk, IfOk, take, flat_map};
 ghost use Rattle.dma_text.specs.Text.{Begins};

@@ -1,4 +1,5 @@
 //! Which instructions of a program load and store an address. DMASTZ stores too.
+#![tactic(auto, using(dma_text::proofs::Begun::begun))]
 
 ghost use Rattle.std.specs.Prelude.{◌≡◌};
 ghost use Rattle.dma_chan.specs.inner.Spans.{IsBurst};

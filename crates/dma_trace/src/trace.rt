@@ -1,4 +1,5 @@
 //! A program, executed over memory with a line for each instruction.
+#![tactic(auto, using(dma_text::proofs::Begun::begun))]
 
 ghost use Rattle.std.specs.Prelude.{◌≡◌, ◌≤◌, ◌<◌, ◌++◌, IsTrue, IsSome, IfOk, None, OnOk, OnErr, length, map, slice_get};
 ghost use Rattle.dma_insn.specs.AssemblyText.{most_program_bytes};

@@ -1,4 +1,5 @@
 //! Values of signals in a Value Change Dump.
+#![tactic(auto, using(dma_text::proofs::Begun::begun))]
 
 ghost use Rattle.std.specs.Prelude.{◌≡◌, ◌+◌, ◌/◌, ◌%◌, ◌^◌};
 ghost use Rattle.dma_trace.specs.Vcd.{bits_text, signal_line, value_text};

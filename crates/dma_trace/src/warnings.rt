@@ -1,4 +1,5 @@
 //! Warnings about the loops of a program, by its text.
+#![tactic(auto, using(dma_text::proofs::Begun::begun))]
 
 ghost use Rattle.std.specs.Prelude.{◌≡◌, ◌+◌, ◌++◌, ◌<◌, ◌≤◌, IfOk, OnOk, flat_map};
 ghost use Rattle.dma_text.specs.Text.{Begins};

@@ -1,4 +1,5 @@
 //! The waveform of a trace, as a Value Change Dump (IEEE 1364).
+#![tactic(auto, using(dma_text::proofs::Begun::begun))]
 
 ghost use Rattle.std.specs.Prelude.{◌≡◌, ◌++◌, OnOk};
 ghost use Rattle.dma_text.specs.Text.{Begins};

@@ -1,4 +1,5 @@
 //! The words of explanations and traces.
+#![tactic(auto, using(dma_text::proofs::Begun::begun))]
 
 ghost use Rattle.std.specs.Prelude.{◌≡◌, ◌<◌, ◌++◌, IsSome, OnOk, Result, Ok, Err, slice_get};
 ghost use Rattle.std.specs.Option.{option_map};
