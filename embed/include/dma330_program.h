@@ -46,13 +46,13 @@
 /* A device's instructions, which a dma330_controller and a dma330_channel don't have. The first stores a burst of zeros at DAR. The
  * next two add a number, 0 to 65,535, to an address. The two after them add a number with ones above its 16 bits, so that
  * 0xFFF0 subtracts 16. The last repeats for ever the `length` bytes before it, 0 to 255: the manual's DMALPFE, which has no
- * bytes, is at their start. */
+ * bytes, is at their start. Its first byte has the bit lc, which the manual sets for such a loop. */
 #define DMA330_DMASTZ 0x0C
 #define DMA330_DMAADDH_SAR(number) 0x54, DMA330_BYTE(number, 0), DMA330_BYTE(number, 1)
 #define DMA330_DMAADDH_DAR(number) 0x56, DMA330_BYTE(number, 0), DMA330_BYTE(number, 1)
 #define DMA330_DMAADNH_SAR(number) 0x5C, DMA330_BYTE(number, 0), DMA330_BYTE(number, 1)
 #define DMA330_DMAADNH_DAR(number) 0x5E, DMA330_BYTE(number, 0), DMA330_BYTE(number, 1)
-#define DMA330_DMALPEND_FOREVER(length) 0x28, ((unsigned char)(length))
+#define DMA330_DMALPEND_FOREVER(length) 0x2C, ((unsigned char)(length))
 
 /* ---- control words, each a uint32_t ---- */
 

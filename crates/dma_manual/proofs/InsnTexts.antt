@@ -61,11 +61,11 @@ chip_says labels (AddHalfword Destination m false) tail h spaces = says_add labe
 chip_says labels (AddHalfword Source m true) tail h spaces = says_subtract labels tail spaces Source (codes "sar") m h refl refl refl
 chip_says labels (AddHalfword Destination m true) tail h spaces = says_subtract labels tail spaces Destination (codes "dar") m h refl refl refl
 chip_says labels (LoopAgain Lc0 b) tail h spaces =
-    subst (λ (l : List ℕ). Says labels (codes "dmalpend -" ++ l) (says.LoopAgain (Always Lc0) b)) (sym (plain_append_law (decimal b) [] tail))
-    (says_again labels tail spaces b (omega arith))
-chip_says labels (LoopAgain Lc1 b) tail h spaces =
-    subst (λ (l : List ℕ). Says labels (codes "dmalpend -" ++ l) (says.LoopAgain (Always Lc1) b)) (sym (plain_append_law (decimal b) (codes ", lc1") tail))
+    subst (λ (l : List ℕ). Says labels (codes "dmalpend -" ++ l) (says.LoopAgain (Always Lc0) b)) (sym (plain_append_law (decimal b) (codes ", lc0") tail))
     (says_again_flag labels tail spaces b (omega arith))
+chip_says labels (LoopAgain Lc1 b) tail h spaces =
+    subst (λ (l : List ℕ). Says labels (codes "dmalpend -" ++ l) (says.LoopAgain (Always Lc1) b)) (sym (plain_append_law (decimal b) [] tail))
+    (says_again labels tail spaces b (omega arith))
 
 other_says : (labels : List Label) (i : OtherInsn) (tail : List ℕ) → HasOtherRanges i → list_all is_space tail ≡ true
     → Says labels (plain (other_text i) ++ tail) (statement_of (Other i))
@@ -121,8 +121,8 @@ chip_inline (AddHalfword Source m false) h = half_inline m
 chip_inline (AddHalfword Destination m false) h = half_inline m
 chip_inline (AddHalfword Source m true) h = half_inline m
 chip_inline (AddHalfword Destination m true) h = half_inline m
-chip_inline (LoopAgain Lc0 b) h = let r = decimal_read b (omega arith) in all_append is_inline (decimal b) [] r.inline refl
-chip_inline (LoopAgain Lc1 b) h = let r = decimal_read b (omega arith) in all_append is_inline (decimal b) (codes ", lc1") r.inline refl
+chip_inline (LoopAgain Lc0 b) h = let r = decimal_read b (omega arith) in all_append is_inline (decimal b) (codes ", lc0") r.inline refl
+chip_inline (LoopAgain Lc1 b) h = let r = decimal_read b (omega arith) in all_append is_inline (decimal b) [] r.inline refl
 chip_inline _ h = refl
 
 go_inline : (c a : ℕ) (flag : List ℕ) → c < 8 → list_all is_inline flag ≡ true

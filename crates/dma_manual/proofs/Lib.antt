@@ -13,4 +13,5 @@ mod Growth
 mod Listed
 mod OneLine
 mod Columns
+mod OneDump
 mod Rows

@@ -101,7 +101,7 @@ again_of : (labels : List Label) (condition : Option Request) (rest digits b : L
     → again_at condition b ≡ Ok again → loop_end_line labels condition rest ≡ Ok (says.LoopAgain again back)
 again_of labels condition rest digits b again back p q small r = rw (p, q, le-leb 0 back (omega arith), le-leb back 255 small, r) refl
 
-again_flag_of : (rest tail : List ℕ) → next_of rest ≡ Some (codes "lc1", tail) → next_of tail ≡ None → again_at None rest ≡ Ok (Always Lc1)
+again_flag_of : (rest tail : List ℕ) → next_of rest ≡ Some (codes "lc0", tail) → next_of tail ≡ None → again_at None rest ≡ Ok (Always Lc0)
 again_flag_of rest tail p q = rw (p, q) refl
 
 -- the name of a counter
@@ -248,15 +248,15 @@ module _ (labels : List Label) (tail : List ℕ) (spaces : list_all is_space tai
       ∙ again_of labels condition (32 ∷ (w ++ rest)) (plain (decimal back)) rest again back (next_space (w ++ rest) ∙ next_word w rest refl r.word gap) r.value
       small flag)
 
-  pub says_again : (back : ℕ) → back ≤ 255 → Says labels (codes "dmalpend -" ++ (plain (decimal back) ++ tail)) (says.LoopAgain (Always Lc0) back)
-  says_again back small = again_said None (Always Lc0) back tail small (gap_spaces tail spaces) (rw (next_none tail spaces) refl)
+  pub says_again : (back : ℕ) → back ≤ 255 → Says labels (codes "dmalpend -" ++ (plain (decimal back) ++ tail)) (says.LoopAgain (Always Lc1) back)
+  says_again back small = again_said None (Always Lc1) back tail small (gap_spaces tail spaces) (rw (next_none tail spaces) refl)
 
   pub says_again_flag : (back : ℕ) → back ≤ 255
-      → Says labels (codes "dmalpend -" ++ (plain (decimal back) ++ (codes "  lc1" ++ tail))) (says.LoopAgain (Always Lc1) back)
+      → Says labels (codes "dmalpend -" ++ (plain (decimal back) ++ (codes "  lc0" ++ tail))) (says.LoopAgain (Always Lc0) back)
   says_again_flag back small =
-      let last = codes "lc1" ++ tail in
-      again_said None (Always Lc1) back (32 ∷ 32 ∷ last) small refl
-      (again_flag_of (32 ∷ 32 ∷ last) tail (last_word (codes "lc1") refl refl) (next_none tail spaces))
+      let last = codes "lc0" ++ tail in
+      again_said None (Always Lc0) back (32 ∷ 32 ∷ last) small refl
+      (again_flag_of (32 ∷ 32 ∷ last) tail (last_word (codes "lc0") refl refl) (next_none tail spaces))
 
   pub says_again_if : (request : Request) (back : ℕ) → back ≤ 255
       → Says labels (plain (end_name (Some request)) ++ 32 ∷ 45 ∷ (plain (decimal back) ++ tail)) (says.LoopAgain (If request) back)

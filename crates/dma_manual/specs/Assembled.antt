@@ -1,7 +1,7 @@
 -- The program to which a text assembles, or the first fault of the text, with its place (profile).
 use Rattle.std.specs.Prelude.{◌≡◌, ℕ, ◌+◌, ◌-◌, Bool, true, false, ◌==◌, ◌&&◌, ◌||◌, if◌then◌else◌, List, [], ◌∷◌, ◌++◌, length, take, map, slice_index, nat_le}
 use Rattle.std.specs.Prelude.{nat_lt, Option, Some, None, is_some, Result, Ok, Err, ok_or}
-use Rattle.std.specs.Result.{result_unwrap_or}
+use Rattle.std.specs.{Int.w32, Int.to_le_bytes, List.list_any, Result.result_unwrap_or}
 use Rattle.dma_text.specs.{Results.◌>>=◌, Lines.text_lines}
 use Rattle.dma_insn.specs.declared.insn.Counter.TheVariants.{Lc0, Lc1}
 use Rattle.dma_insn.specs.declared.chip.ChipInsn.TheVariants.{Lp, LpEnd, LoopAgain}
@@ -21,7 +21,8 @@ use Rattle.dma_manual.specs.declared.statements.End.TheVariants as ends
 use Rattle.dma_manual.specs.declared.statements.Statement.TheVariants as says
 
 -- What the lines so far say: the program's bytes, the labels, the loops that are open, whether an instruction is DMAEND
--- or a `DCB` is 0, and the first DMALPEND that doesn't jump to the start of the open loop of its kind.
+-- or a byte of a `DCB` or a `DCD` is 0, and the first DMALPEND that doesn't jump to the start of the open loop of its
+-- kind.
 pub record Read : Type 0 where
   pub code : List ℕ
   pub labels : List Label
@@ -148,7 +149,7 @@ again_of (If request) back = Other (LoopAgainIf request back)
 abbrev pub end_of : LoopKind → Option Request → ℕ → ManualInsn
 end_of (Counted counter) None back = Chip (LpEnd counter back)
 end_of (Counted counter) (Some request) back = Other (LpEndIf request counter back)
-end_of Endless None back = again_of (Always Lc0) back
+end_of Endless None back = again_of (Always Lc1) back
 end_of Endless (Some request) back = again_of (If request) back
 
 -- What the lines say if a DMALP follows them: its loop is open.
@@ -203,7 +204,15 @@ ended_again r again back place = do
         (record { place = place; kind = Endless; condition = condition_of again });
   })
 
--- What the lines say if more bytes follow them; `stops` is whether these are DMAEND.
+-- the bytes of the number of a `DCD`, the lowest first
+abbrev pub word_bytes : ℕ → List ℕ
+word_bytes v = to_le_bytes w32 v
+
+-- whether one of these bytes is DMAEND's
+abbrev pub has_zero : List ℕ → Bool
+has_zero bytes = list_any (λ b. b == 0) bytes
+
+-- What the lines say if more bytes follow them; `stops` is whether these have DMAEND.
 abbrev pub with_code : Read → List ℕ → Bool → Place → Result Read Located
 with_code r bytes stops place = do
   code ← with_bytes r.code bytes place
@@ -214,6 +223,7 @@ abbrev pub after_statement : Read → Statement → Place → Result Read Locate
 after_statement r says.Nothing place = Ok r
 after_statement r (says.Plain i) place = with_code r (spelling i) (is_end i) place
 after_statement r (says.Byte b) place = with_code r (b ∷ []) (b == 0) place
+after_statement r (says.Word v) place = with_code r (word_bytes v) (has_zero (word_bytes v)) place
 after_statement r (says.Loop counter times) place = begun r counter times place
 after_statement r (says.LoopEnd condition end) place = ended r condition end place
 after_statement r says.Endless place = begun_endless r place

@@ -1,14 +1,15 @@
 -- What each byte of a dump is a part of (profile). A line has an address, groups of digits, and perhaps its bytes as
 -- text. Each address is where the bytes of the line before end.
-use Rattle.std.specs.Prelude.{ℕ, ◌+◌, ◌-◌, Bool, true, false, not, ◌==◌, ◌||◌, ◌&&◌, nat_le, nat_lt, if◌then◌else◌, List, [], ◌∷◌, drop, length, slice_get}
-use Rattle.std.specs.Prelude.{Option, Some, None, is_some, Result, Ok, Err}
-use Rattle.std.specs.{Char.digit_value, Option.unwrap_or}
-use Rattle.dma_manual.specs.Forms.{digits_of, has_octal, has_spaced_text, is_digit_in, is_octal, is_x, least_digits, size_of, with_digit}
+use Rattle.std.specs.Prelude.{ℕ, ◌+◌, ◌-◌, Bool, true, false, not, ◌==◌, ◌||◌, ◌&&◌, nat_le, nat_lt, if◌then◌else◌, List, [], ◌∷◌, codes, drop, length, slice_get}
+use Rattle.std.specs.Prelude.{Option, Some, None, Result, Ok, Err}
+use Rattle.std.specs.{Char.digit_value, List.list_all, Option.unwrap_or}
+use Rattle.dma_manual.specs.Forms.{digits_of, has_address_digit, has_long_groups, has_spaced_text, is_digit_in, is_octal, is_x, least_digits, size_of}
+use Rattle.dma_manual.specs.Forms.{with_address_digit, with_digit}
 use Rattle.dma_manual.specs.declared.forms.Column.TheVariants.{Colon, Headed}
-use Rattle.dma_manual.specs.declared.dump.Place.TheVariants.{Start, Heading, Word, Break, Address, Open, Symbol, Closed, Lead, Zero, Gap, Behind, Group, Text}
+use Rattle.dma_manual.specs.declared.dump.Place.TheVariants.{Start, Indent, Title, Titled, Heading, Word, Break, Address, Open, Symbol, Closed, Lead, Zero, Gap, Behind, Group, Text}
 use Rattle.dma_manual.specs.declared.dump.Place.TheVariants.{Array}
 use Rattle.dma_manual.specs.declared.dump.Effect.TheVariants.{Nothing, Number, Cut}
-use Rattle.dma_manual.specs.{Array.array_step, declared.array.ArrayPlace.ArrayPlace, declared.forms.Column.Column, declared.forms.Form.Form}
+use Rattle.dma_manual.specs.{Array.array_step, Array.is_byte_of, declared.array.ArrayPlace.ArrayPlace, declared.forms.Column.Column, declared.forms.Form.Form}
 use Rattle.dma_manual.specs.{declared.dump.Scan.Scan, declared.dump.Place.Place, declared.dump.Effect.Effect, declared.dump.Cause.Cause}
 use Rattle.dma_text.specs.Lines.{is_all_spaces, is_blank}
 use Rattle.dma_manual.specs.declared.forms.Group.{Group as Size}
@@ -43,6 +44,10 @@ goes_on (Some f) n v = v == f + n
 abbrev pub shown_as : ℕ → ℕ
 shown_as c = if nat_le 32 c && nat_le c 126 then c else 46
 
+-- whether bytes are all 0
+abbrev pub is_all_zeros : List ℕ → Bool
+is_all_zeros bytes = list_all (λ b. b == 0) bytes
+
 -- how many spaces bytes begin with
 abbrev pub leading_spaces : List ℕ → ℕ
 leading_spaces [] = 0
@@ -64,28 +69,35 @@ with_address s n v p =
     then Ok (record { place = p; first = Some (unwrap_or s.first v); before = n; is_sure = sure }, Nothing)
     else Err BadAddress
 
--- The address v alone, after n bytes of which the first is at `from`: the bytes end there, perhaps within a group.
-abbrev pub cut_at : Scan → Size → ℕ → ℕ → Option ℕ → Step
-cut_at s size n v None = Err BadAddress
-cut_at s size n v (Some from) =
-    if (nat_le from v && nat_le (v - from) n) && nat_lt (n - (v - from)) (size_of size)
+-- The address v alone, after bytes of which the first is at `from`: the bytes end there, but for zeros with which the
+-- last group is filled up.
+abbrev pub cut_at : Scan → Size → List ℕ → ℕ → Option ℕ → Step
+cut_at s size bytes v None = Err BadAddress
+cut_at s size bytes v (Some from) =
+    let n = length bytes in
+    let ends = (nat_le from v && nat_le (v - from) n) && nat_lt (n - (v - from)) (size_of size) in
+    if ends && is_all_zeros (drop (v - from) bytes)
     then Ok (record s { place = Start; is_sure = true }, Cut (v - from)) else Err BadAddress
 
--- a byte that no address has: a heading may have it, before the first address
-abbrev pub strange : Form → Scan → ℕ → Step
-strange form s b =
-    if has_headings form.column && not (is_some s.first) then (if b == 10 then line_end s else at_place s Heading)
-    else Err Byte
+-- in a line above the addresses, after k bytes of a title, which objdump prints above those of a section
+abbrev pub title_step : Scan → ℕ → ℕ → Step
+title_step s k b =
+    if b == 10 then at_place s (Title 0) else (
+    if is_byte_of (slice_get (codes "Contents of section ") k) b
+    then at_place s (if k == 19 then Titled else Title (k + 1))
+    else at_place s Heading)
 
--- after the blanks that a line begins with
-abbrev pub start_step : Form → Scan → ℕ → Step
-start_step form s b =
+-- At the start of a line, which may be indented. After blanks it has an address only if no group could be one: `od -A n`
+-- prints groups alone, each after a space.
+abbrev pub start_step : Form → Scan → Bool → ℕ → Step
+start_step form s indented b =
     if b == 10 then line_end s else (
-    if is_blank b then at_place s Start else (
-    if is_digit_in (has_octal form.column) b then at_place s (Address false 1 (digit_value b)) else (
+    if is_blank b then at_place s Indent else (
+    if indented && has_long_groups form then Err Byte else (
+    if has_address_digit form.column b then at_place s (Address false 1 (digit_value b)) else (
     if b == 42 then Err Star else (
     if b == 91 && has_colon form.column then at_place s Word
-    else strange form s b))))
+    else Err Byte)))))
 
 -- in a word of a log's line, before the address
 abbrev pub word_step : Scan → ℕ → Step
@@ -95,29 +107,33 @@ word_step s b = if b == 10 then Err Byte else at_place s (if b == 32 then Break 
 abbrev pub break_step : Scan → ℕ → Step
 break_step s b = if is_digit_in false b then at_place s (Address true 1 (digit_value b)) else word_step s b
 
--- after the address v, with n bytes read before it
-abbrev pub address_end : Form → Scan → ℕ → Bool → ℕ → ℕ → Step
-address_end form s n logged v b =
+-- After the address v, with these bytes read before it. If a space follows, it is one only before a symbol.
+abbrev pub address_end : Form → Scan → List ℕ → Bool → ℕ → ℕ → Step
+address_end form s bytes logged v b =
+    let n = length bytes in
     if has_colon form.column
     then (if b == 58 then with_address s n v (Lead 0) else (
     if logged then word_step s b else (
-    if b == 32 then with_address s n v Open
+    if b == 32 then at_place s (Open v)
     else Err Byte)))
     else (if is_blank b then with_address s n v Gap else (
-    if has_headings form.column then strange form s b else (
-    if b == 10 then cut_at s form.group n v s.first
-    else Err Byte)))
+    if b == 10 && not (has_headings form.column) then cut_at s form.group bytes v s.first
+    else Err Byte))
 
 -- After digits of an address that spell v. d is their number, counted up to the least; a mark counts as three digits.
-abbrev pub address_step : Form → Scan → ℕ → Bool → ℕ → ℕ → ℕ → Step
-address_step form s n logged d v b =
-    let octal = has_octal form.column in
+abbrev pub address_step : Form → Scan → List ℕ → Bool → ℕ → ℕ → ℕ → Step
+address_step form s bytes logged d v b =
     let more = if nat_lt d (least_digits form.column) then d + 1 else d in
-    if is_digit_in octal b then at_place s (Address logged more (with_digit octal v b)) else (
+    if has_address_digit form.column b
+    then at_place s (Address logged more (with_address_digit form.column v b)) else (
     if ((has_colon form.column && d == 1) && v == 0) && is_x b then at_place s (Address logged 3 0) else (
-    if nat_le (least_digits form.column) d then address_end form s n logged v b else (
+    if nat_le (least_digits form.column) d then address_end form s bytes logged v b else (
     if logged then word_step s b
-    else strange form s b)))
+    else Err Byte)))
+
+-- after the address v and a space, with n bytes read before
+abbrev pub open_step : Scan → ℕ → ℕ → ℕ → Step
+open_step s n v b = if b == 60 then with_address s n v (Symbol b) else Err Byte
 
 -- in the name of a symbol, after the byte `c`
 abbrev pub symbol_step : Scan → ℕ → ℕ → Step
@@ -202,12 +218,15 @@ in_array s (Err cause) = Err cause
 
 -- What the byte b is a part of, given the place of the byte before it and the bytes read so far.
 abbrev pub place_step : Form → Scan → List ℕ → Place → ℕ → Step
-place_step form s bytes Start b = start_step form s b
-place_step form s bytes Heading b = if b == 10 then line_end s else at_place s Heading
+place_step form s bytes Start b = start_step form s false b
+place_step form s bytes Indent b = start_step form s true b
+place_step form s bytes (Title k) b = title_step s k b
+place_step form s bytes Titled b = if b == 10 then line_end s else at_place s Titled
+place_step form s bytes Heading b = at_place s (if b == 10 then Title 0 else Heading)
 place_step form s bytes Word b = word_step s b
 place_step form s bytes Break b = break_step s b
-place_step form s bytes (Address logged d v) b = address_step form s (length bytes) logged d v b
-place_step form s bytes Open b = if b == 60 then at_place s (Symbol b) else Err Byte
+place_step form s bytes (Address logged d v) b = address_step form s bytes logged d v b
+place_step form s bytes (Open v) b = open_step s (length bytes) v b
 place_step form s bytes (Symbol c) b = symbol_step s c b
 place_step form s bytes Closed b = closed_step form s b
 place_step form s bytes (Lead n) b = lead_step form s n b

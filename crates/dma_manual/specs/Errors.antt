@@ -20,6 +20,7 @@ abbrev pub missing_message : Operand → List ℕ
 missing_message operand.Times = codes "lacks a number of times, 1 to 256"
 missing_message operand.Event = codes "lacks an event, e0 to e31"
 missing_message operand.Byte = codes "lacks a byte, 0 to 255"
+missing_message operand.Word = codes "lacks a number of 32 bits"
 missing_message operand.Register = codes "lacks a register, SAR, CCR or DAR"
 missing_message operand.Address = codes "lacks an address"
 missing_message operand.Fields = codes "lacks fields or a number"

@@ -1,8 +1,8 @@
 -- The forms of dumps (profile): what tools print around the digits of memory. A form is how the columns of addresses
 -- and of text look, and how a group of digits spells bytes. The lowest byte of a group comes first in memory.
-use Rattle.std.specs.Prelude.{ℕ, ◌+◌, ◌*◌, ◌%◌, ◌^◌, Bool, true, false, ◌==◌, ◌||◌, nat_lt, if◌then◌else◌, List, [], ◌∷◌}
+use Rattle.std.specs.Prelude.{ℕ, ◌+◌, ◌*◌, ◌%◌, ◌^◌, Bool, true, false, not, ◌==◌, ◌||◌, ◌&&◌, nat_le, nat_lt, if◌then◌else◌, List, [], ◌∷◌}
 use Rattle.std.specs.Char.{digit_value}
-use Rattle.dma_manual.specs.declared.forms.Column.TheVariants.{Colon, Hex, Octal, Headed, Array}
+use Rattle.dma_manual.specs.declared.forms.Column.TheVariants.{Colon, Hex, Octal, Decimal, Headed, Array}
 use Rattle.dma_manual.specs.{declared.forms.Column.Column, declared.forms.Form.Form, declared.forms.Group.Group}
 use Rattle.dma_manual.specs.declared.forms.Group.TheVariants.{Byte, Half, Word, Long, Octal as Octals}
 
@@ -27,15 +27,25 @@ abbrev pub is_octal : Group → Bool
 is_octal Octals = true
 is_octal other = false
 
--- whether addresses are octal
-abbrev pub has_octal : Column → Bool
-has_octal Octal = true
-has_octal other = false
+-- the radix of addresses
+abbrev pub radix_of : Column → ℕ
+radix_of Octal = 8
+radix_of Decimal = 10
+radix_of other = 16
+
+-- whether a byte is a digit of an address
+abbrev pub has_address_digit : Column → ℕ → Bool
+has_address_digit column b = nat_lt (digit_value b) (radix_of column)
+
+-- the address of the digits that spell v with one more digit
+abbrev pub with_address_digit : Column → ℕ → ℕ → ℕ
+with_address_digit column v b = v % (2 ^ 60) * radix_of column + digit_value b
 
 -- the least number of digits of an address
 abbrev pub least_digits : Column → ℕ
 least_digits Hex = 6
 least_digits Octal = 6
+least_digits Decimal = 6
 least_digits other = 4
 
 -- whether two spaces, not a bar, come before the text
@@ -43,6 +53,10 @@ abbrev pub has_spaced_text : Column → Bool
 has_spaced_text Colon = true
 has_spaced_text Headed = true
 has_spaced_text other = false
+
+-- whether a group of a line without an address could be taken for one: no colon or text is there to tell
+abbrev pub has_long_groups : Form → Bool
+has_long_groups form = not (has_spaced_text form.column) && nat_le (least_digits form.column) (digits_of form.group)
 
 -- the letter of a mark `0x`
 abbrev pub is_x : ℕ → Bool
@@ -66,6 +80,7 @@ abbrev pub plain_forms : List Form
 plain_forms =
     form Hex Byte ∷ form Hex Half ∷ form Hex Word ∷ form Hex Long ∷ form Hex Octals
     ∷ form Octal Byte ∷ form Octal Half ∷ form Octal Word ∷ form Octal Long ∷ form Octal Octals
+    ∷ form Decimal Byte ∷ form Decimal Half ∷ form Decimal Word ∷ form Decimal Long ∷ form Decimal Octals
     ∷ form Headed Byte ∷ form Array Byte ∷ []
 
 -- The forms in the order in which they are tried: after a colon, words come first.

@@ -1,4 +1,5 @@
 pub mod ChipOnly
+pub mod FirstBytes
 pub mod Insns
 pub mod ManualText
 pub mod Listing

@@ -75,10 +75,11 @@ add_name true = codes "DMAADNH "
 abbrev pub half_digits : ℕ → List ℕ
 half_digits half = hex_pair (half / 256 % 256) ++ hex_pair (half % 256)
 
--- what follows the jump of the DMALPEND of a DMALPFE: `lc1` if its bit lc is set, which has no effect
+-- What follows the jump of the DMALPEND of a DMALPFE: `lc0` if its bit lc is 0. The manual sets this bit for such a
+-- loop, so that the first byte is 0x2c: 0x29 and 0x2b are DMASTPS and DMASTPB.
 abbrev pub again_flag : Counter → List ℕ
-again_flag Lc0 = []
-again_flag Lc1 = codes ", lc1"
+again_flag Lc0 = codes ", lc0"
+again_flag Lc1 = []
 
 -- the line of an instruction, without label, comment or line feed
 abbrev pub manual_text : ChipInsn → List ℕ

@@ -1,7 +1,7 @@
 -- Notes and warnings that follow the message of an answer (profile).
 use Rattle.std.specs.Prelude.{ℕ, Bool, false, ◌==◌, ◌||◌, ◌&&◌, not, nat_le, length, if◌then◌else◌, List, [], ◌∷◌, ◌++◌, Option, Some, None, codes}
 use Rattle.std.specs.List.{list_all}
-use Rattle.dma_manual.specs.declared.forms.Column.TheVariants.{Array, Octal}
+use Rattle.dma_manual.specs.declared.forms.Column.TheVariants.{Array, Decimal, Octal}
 use Rattle.dma_manual.specs.{declared.forms.Column.Column, declared.forms.Group.Group, declared.forms.Form.Form}
 use Rattle.dma_manual.specs.declared.forms.Group.TheVariants.{Byte, Half, Word, Long, Octal as Octals}
 
@@ -43,6 +43,7 @@ units Octals = codes "16-bit words in octal, lowest byte first"
 abbrev pub left_out : Column → List ℕ
 left_out Array = codes "; what is outside the braces is left out"
 left_out Octal = codes "; octal addresses and text are left out"
+left_out Decimal = codes "; decimal addresses and text are left out"
 left_out _ = codes "; addresses and text are left out"
 
 -- The note on the form of a dump: a message of its own, or a line after another.

@@ -1,13 +1,15 @@
 -- Programs that are pasted as text (profile): digits, or a dump, which is read in the first form of a list that fits.
 use Rattle.std.specs.Prelude.{ℕ, ◌+◌, Bool, true, false, not, ◌||◌, ◌&&◌, nat_le, nat_lt, if◌then◌else◌, List, [], ◌∷◌, ◌++◌, length, take, replicate, Option}
-use Rattle.std.specs.Prelude.{Some, None, is_ok, Result, Ok, Err}
-use Rattle.std.specs.Int.{w64, to_le_bytes}
+use Rattle.std.specs.Prelude.{Some, None, Result, Ok, Err}
+use Rattle.std.specs.{Int.w64, Int.to_le_bytes, Str.bytes_eq}
 use Rattle.dma_text.specs.Results.{◌>>=◌}
 use Rattle.dma_manual.specs.Forms.{bytes_first, form, plain_forms, size_of, words_first}
-use Rattle.dma_manual.specs.declared.forms.Column.TheVariants.{Colon, Array}
-use Rattle.dma_manual.specs.declared.forms.Group.TheVariants.{Byte, Half, Word, Long}
+use Rattle.dma_manual.specs.declared.forms.Column.TheVariants.{Colon, Array, Headed}
+use Rattle.dma_manual.specs.declared.forms.Group.TheVariants.{Byte, Word}
 use Rattle.dma_manual.specs.{Array.is_of_array, Dump.Step, Dump.next_of, declared.array.ArrayPlace.ArrayPlace, declared.array.ArrayPlace.TheVariants.Front}
 use Rattle.dma_manual.specs.{declared.array.ArrayPlace.TheVariants.Rest, Notes.ends_at_once, declared.dump.Cause.Cause, declared.dump.Effect.Effect}
+use Rattle.dma_manual.specs.{declared.doubts.Doubt.Doubt, declared.doubts.Doubt.TheVariants.Order, declared.doubts.Doubt.TheVariants.Radix}
+use Rattle.dma_manual.specs.declared.doubts.Doubt.TheVariants.{Address as NoAddress}
 use Rattle.dma_manual.specs.{declared.dump.Place.Place, declared.dump.Scan.Scan, declared.forms.Column.Column, declared.forms.Group.Group}
 use Rattle.dma_manual.specs.{declared.forms.Form.Form, declared.pasted.Fault.Fault, declared.pasted.Refused.Refused, declared.pasted.Spelling.Spelling}
 use Rattle.dma_manual.specs.{declared.pasted.Spelling.TheVariants.Digits, declared.pasted.Spelling.TheVariants.Dump}
@@ -15,8 +17,8 @@ use Rattle.dma_io.specs.declared.hexadecimal.Notation.TheVariants.{Pairs, Words}
 use Rattle.dma_io.specs.{Hexadecimal.spelled, declared.hexadecimal.Notation.Notation}
 use Rattle.dma_manual.specs.declared.dump.Cause.TheVariants.{Byte as BadByte, Address as BadAddress, Star, Long as TooLong}
 use Rattle.dma_manual.specs.declared.dump.Effect.TheVariants.{Nothing, Number, Element as Ends, Cut}
-use Rattle.dma_manual.specs.declared.dump.Place.TheVariants.{Start, Array as InArray}
-use Rattle.dma_manual.specs.declared.pasted.Refused.TheVariants.{Digits as BadDigits, Dump as BadDump, Ambiguous}
+use Rattle.dma_manual.specs.declared.dump.Place.TheVariants.{Start, Title, Array as InArray}
+use Rattle.dma_manual.specs.declared.pasted.Refused.TheVariants.{Digits as BadDigits, Dump as BadDump, Unsure}
 
 -- the bytes read so far, after what a byte of the text does to them
 abbrev pub applied : Group → Effect → List ℕ → List ℕ
@@ -27,6 +29,7 @@ applied group (Cut n) bytes = take n bytes
 
 abbrev pub start_of : Column → Place
 start_of Array = InArray Front
+start_of Headed = Title 0
 start_of _ = Start
 
 -- the scan before the first byte of a text
@@ -111,24 +114,54 @@ abbrev pub colon_form : Notation → Form
 colon_form Pairs = form Colon Byte
 colon_form Words = form Colon Word
 
--- whether a form has words after a colon
-abbrev pub has_words : Column → Group → Bool
-has_words Colon Half = true
-has_words Colon Word = true
-has_words Colon Long = true
-has_words _ _ = false
+-- whether what was read is other than these bytes
+abbrev pub differs : Result (List ℕ × Bool) Fault → List ℕ → Bool
+differs (Ok it) bytes = not (bytes_eq it.0 bytes)
+differs (Err fault) bytes = false
 
--- whether a dump in a form may as well be read as bytes after a colon
-abbrev pub is_ambiguous : Form → List ℕ → Bool
-is_ambiguous f text = has_words f.column f.group && is_ok (read_as (colon_form Pairs) text)
+-- whether a text is a dump of other bytes in a form
+abbrev pub is_other : Form → List ℕ → List ℕ → Bool
+is_other form text bytes = differs (read_as form text) bytes
+
+-- whether a text is a dump of other bytes in one of these forms
+abbrev pub is_other_in : List Form → List ℕ → List ℕ → Bool
+is_other_in [] text bytes = false
+is_other_in (form ∷ forms) text bytes = is_other form text bytes || is_other_in forms text bytes
+
+-- whether a colon or braces show that a text is no program in digits
+abbrev pub is_marked : Column → Bool
+is_marked Colon = true
+is_marked Array = true
+is_marked _ = false
+
+-- what is doubtful of a dump that has other bytes in another form
+abbrev pub other_doubt : Column → Doubt
+other_doubt Colon = Order
+other_doubt _ = Radix
+
+-- What is doubtful of a dump with these bytes: whether it has other bytes in another of these forms; or whether it has
+-- addresses at all, unless a colon, braces, a line after the first or a line's text shows them.
+abbrev pub doubt_of : List Form → Column → Bool → List ℕ → List ℕ → Option Doubt
+doubt_of forms column sure text bytes =
+    if is_other_in forms text bytes then Some (other_doubt column) else (
+    if sure || is_marked column then None else Some NoAddress)
 
 -- A program that is read, with its form if it is a dump; or why a text is none.
 abbrev pub Program : Type 0
 Program = Result (Option Form × List ℕ) Refused
 
+-- the program of a dump, given what is doubtful of it
+abbrev pub settled_by : Option Doubt → Form × List ℕ × Bool → Program
+settled_by (Some doubt) d = Err (Unsure doubt)
+settled_by None d = Ok (Some d.0, d.1)
+
+-- the program of a dump, if nothing of it is doubtful
+abbrev pub settled : List Form → List ℕ → Form × List ℕ × Bool → Program
+settled forms text d = settled_by (doubt_of forms d.0.column d.2 text d.1) d
+
 -- the program of a text that is read as a dump
 abbrev pub dump_of : List ℕ → Read → Program
-dump_of text (Ok d) = if is_ambiguous d.0 text then Err Ambiguous else Ok (Some d.0, d.1)
+dump_of text (Ok d) = settled words_first text d
 dump_of text (Err fault) = Err (BadDump fault)
 
 -- whether a dump lacks lines
@@ -141,21 +174,15 @@ lacks_lines fault = fault.is_dump && is_gap fault.cause
 
 -- The program of a text whose digits are these bytes: a dump without colons if it surely is one; but no program if the
 -- bytes begin with DMAEND and the text is a dump that lacks lines.
-abbrev pub plain_of : List ℕ → Read → Program
-plain_of bytes (Ok d) = if d.2 then Ok (Some d.0, d.1) else Ok (None, bytes)
-plain_of bytes (Err fault) =
+abbrev pub plain_of : List ℕ → List ℕ → Read → Program
+plain_of bytes text (Ok d) = if d.2 then settled plain_forms text d else Ok (None, bytes)
+plain_of bytes text (Err fault) =
     if ends_at_once bytes && lacks_lines fault then Err (BadDump fault) else Ok (None, bytes)
 
 -- The program of a text, given what it is as a dump with colons: no program if that lacks lines.
 abbrev pub unless_gap : Result (List ℕ × Bool) Fault → Program → Program
 unless_gap (Ok it) program = program
 unless_gap (Err fault) program = if lacks_lines fault then Err (BadDump fault) else program
-
--- whether a colon or braces show that a text is no program in digits
-abbrev pub is_marked : Column → Bool
-is_marked Colon = true
-is_marked Array = true
-is_marked _ = false
 
 -- whether a fault of a dump says more than that of its digits at an offset: it is further in the text, or at a `*`
 abbrev pub says_more : Fault → ℕ → Bool
@@ -167,17 +194,17 @@ says_more fault at = fault.is_dump && (nat_lt at fault.at || is_star fault.cause
 
 -- The program of a text whose digits have a fault at an offset: a dump, if it surely is one or has colons or braces; or
 -- else the fault that says more.
-abbrev pub other_of : Notation → ℕ → Read → Program
-other_of notation at (Ok d) =
-    if d.2 || is_marked d.0.column then Ok (Some d.0, d.1) else Err (BadDigits notation at)
-other_of notation at (Err fault) =
+abbrev pub other_of : Notation → ℕ → List ℕ → Read → Program
+other_of notation at text (Ok d) =
+    if d.2 || is_marked d.0.column then settled plain_forms text d else Err (BadDigits notation at)
+other_of notation at text (Err fault) =
     if says_more fault at then Err (BadDump fault) else Err (BadDigits notation at)
 
 -- the program of a text that spells these bytes, or has a fault at this offset
 abbrev pub digits_of : Notation → List ℕ → Result (List ℕ) ℕ → Program
 digits_of notation text (Ok bytes) =
-    unless_gap (read_as (colon_form notation) text) (plain_of bytes (fit plain_forms nowhere text))
-digits_of notation text (Err at) = other_of notation at (fit (forms_for notation) nowhere text)
+    unless_gap (read_as (colon_form notation) text) (plain_of bytes text (fit plain_forms nowhere text))
+digits_of notation text (Err at) = other_of notation at text (fit (forms_for notation) nowhere text)
 
 -- The program that a text spells, or why it spells none.
 abbrev pub pasted : Spelling → List ℕ → Program

@@ -2,8 +2,9 @@
 use Rattle.std.specs.Prelude.{ℕ, false, if◌then◌else◌, List, [], ◌++◌, Option, Some, codes, slice_get}
 use Rattle.dma_text.specs.Digits.{hex_pair}
 use Rattle.dma_io.specs.{Answer.Prints, Faults.fault_message, Faults.place_text}
-use Rattle.dma_manual.specs.declared.pasted.Refused.TheVariants.{Digits, Dump, Ambiguous}
-use Rattle.dma_manual.specs.{declared.dump.Cause.Cause, declared.pasted.Fault.Fault, declared.pasted.Refused.Refused}
+use Rattle.dma_manual.specs.declared.pasted.Refused.TheVariants.{Digits, Dump, Unsure}
+use Rattle.dma_manual.specs.{declared.dump.Cause.Cause, declared.doubts.Doubt.Doubt, declared.pasted.Fault.Fault, declared.pasted.Refused.Refused}
+use Rattle.dma_manual.specs.declared.doubts.Doubt.TheVariants as doubts
 use Rattle.dma_manual.specs.declared.dump.Cause.TheVariants.{Byte as BadByte, Address, Text, Star, Large, Elided, Count, Long}
 
 -- what is wrong with a dump, if it isn't a byte
@@ -28,16 +29,20 @@ dump_message text fault =
     if fault.is_dump then place_text text fault.at ++ at_fault fault.cause (slice_get text fault.at)
     else codes " no dump is found: each line has an address, or the bytes are in braces\n"
 
--- what is wrong with a text whose groups may be bytes or words
-abbrev pub ambiguous_message : List ℕ
-ambiguous_message =
+-- what a dump may be besides what it looks like, and what to add
+abbrev pub doubt_message : Doubt → List ℕ
+doubt_message doubts.Order =
     codes " the groups may be bytes in this order, as xxd prints them (--hex), or words, as md does (--words)\n"
+doubt_message doubts.Radix =
+    codes " the addresses fit in two radices, with other bytes in each: print single bytes (hexdump -C, od -t x1)\n"
+doubt_message doubts.Address =
+    codes " nothing shows that the line begins with an address: add the line after it, or a colon to the address\n"
 
 -- why a text spells no program
 abbrev pub why_text : Refused → List ℕ → List ℕ
 why_text (Digits notation at) text = place_text text at ++ fault_message notation (slice_get text at)
 why_text (Dump fault) text = dump_message text fault
-why_text Ambiguous text = ambiguous_message
+why_text (Unsure doubt) text = doubt_message doubt
 
 -- what is printed for a text that spells no program
 abbrev pub refusal : Refused → List ℕ → Prints

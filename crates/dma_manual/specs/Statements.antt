@@ -77,11 +77,13 @@ loop_end_to labels condition counter (Some w) = do
   done ← no_more w.1
   Ok (says.LoopEnd condition end)
 
--- what follows the jump of the DMALPEND of a DMALPFE: nothing, or `lc1`, with which its bit lc is set
+-- what follows the jump of the DMALPEND of a DMALPFE: nothing, with which its bit lc is set, or the bit as `lc0` or `lc1`
 abbrev pub again_by : Option (List ℕ × List ℕ) → Result Counter Fault
-again_by None = Ok Lc0
-again_by (Some w) =
-    if bytes_eq w.0 (codes "lc1") then (no_more w.1 >>= λ done. Ok Lc1) else Err (fault_at causes.Extra w.0 w.1)
+again_by None = Ok Lc1
+again_by (Some w) = do
+  counter ← ok_or (counter_of w.0) (fault_at causes.Extra w.0 w.1)
+  done ← no_more w.1
+  Ok counter
 
 -- the same for a DMALPEND that may be for a kind of request; if it is, nothing follows its jump
 abbrev pub again_at : Option Request → List ℕ → Result Again Fault
@@ -133,6 +135,14 @@ byte_line name rest = do
   b ← number_at causes.Byte 0 255 w.0 w.0 w.1
   done ← no_more w.1
   Ok (says.Byte b)
+
+-- the word after DCD: a number of 32 bits
+abbrev pub word_line : List ℕ → List ℕ → Result Statement Fault
+word_line name rest = do
+  w ← word_after rest (fault_at (causes.Missing operand.Word) name rest)
+  v ← number_at causes.Value 0 0xffffffff w.0 w.0 w.1
+  done ← no_more w.1
+  Ok (says.Word v)
 
 -- the last word of a DMAMOV: a value of 32 bits
 abbrev pub set_value : Reg → List ℕ → List ℕ → Result Statement Fault
@@ -256,7 +266,8 @@ by_name labels name rest =
     if bytes_eq name (codes "dmaaddh") then add_line false name rest else (
     if bytes_eq name (codes "dmaadnh") then add_line true name rest else (
     if bytes_eq name (codes "dmalpfe") then bare says.Endless rest else (
-    if bytes_eq name (codes "dcb") then byte_line name rest else by_other_name labels name rest)))))))))))))))
+    if bytes_eq name (codes "dcb") then byte_line name rest else (
+    if bytes_eq name (codes "dcd") then word_line name rest else by_other_name labels name rest))))))))))))))))
 
 -- what the words after a label say
 abbrev pub statement_by : List Label → Option (List ℕ × List ℕ) → Result Statement Fault

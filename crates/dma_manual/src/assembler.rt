@@ -20,6 +20,7 @@ pub enum Operand {
     Times,
     Event,
     Byte,
+    Word,
     Register,
     Address,
     Fields,
@@ -168,8 +169,8 @@ fn read_text(alloc: Global, text: &[u8]) -> Result<Draft, Stop>
 /// that of a loop is after its DMALP. Letters are in either case, commas may be left out, and `;`, `#` or `/` begins a
 /// comment. A number is decimal or, after `0x`, hexadecimal. What is written is taken as it is; what is left out is
 /// found: DMALP without a counter takes a free one, and its loop has to be ended; DMALPEND without operands ends the
-/// innermost open loop, and with a counter that counter's loop. `DCB` is a byte. Fields of DMAMOV CCR are tested, and
-/// its value as a number is not.
+/// innermost open loop, and with a counter that counter's loop. `DCB` is a byte, and `DCD` a number of 32 bits, of which
+/// the lowest byte comes first. Fields of DMAMOV CCR are tested, and its value as a number is not.
 pub fn assemble(alloc: Global, text: &[u8]) -> Result<Vec<u8>, AsmError<'_>>
     ensures { IsAssembled (λ program. program.items) text.now result }
 {

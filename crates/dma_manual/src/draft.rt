@@ -3,7 +3,7 @@
 ghost use Rattle.std.specs.Prelude.{◌≡◌, ◌==◌, ◌++◌, ◌+◌, ◌-◌, ◌≤◌, ◌<◌, [], ◌∷◌, length, map, Option, MatchOption, Some, None};
 ghost use Rattle.dma_insn.specs.LineReading.{ResultIs};
 ghost use Rattle.dma_manual.specs.Words.{next_of};
-ghost use Rattle.dma_manual.specs.Assembled.{ResultOr, after_statement, begun, begun_endless, draft_view, empty, ended, ended_again, first_stray, label_in, located, place_of, place_at, take_line, unclosed, with_bytes, with_code, with_label, with_statement};
+ghost use Rattle.dma_manual.specs.Assembled.{ResultOr, after_statement, begun, begun_endless, draft_view, empty, ended, ended_again, first_stray, has_zero, label_in, located, place_of, place_at, take_line, unclosed, with_bytes, with_code, with_label, with_statement, word_bytes};
 ghost use Rattle.dma_manual.specs.Insns.{spelling};
 ghost use Rattle.dma_manual.specs.Listing.{is_end};
 ghost use Rattle.dma_manual.specs.Statements.{label_view};
@@ -26,7 +26,7 @@ pub struct Draft {
     pub code: Vec<u8>,
     pub labels: Vec<Named>,
     pub loops: Loops,
-    /// Whether an instruction is DMAEND, or a `DCB` is 0, which is DMAEND's byte.
+    /// Whether an instruction is DMAEND, or a byte of a `DCB` or a `DCD` is 0, which is DMAEND's byte.
     pub stops: bool,
     /// The first DMALPEND that doesn't jump to the start of the open loop of its kind.
     pub stray: Option<Stray>,
@@ -218,6 +218,17 @@ fn push_byte(draft: &mut Draft, byte: u8, place: Place) -> Result<(), Stop>
     Ok(())
 }
 
+// Appends the bytes of a number, the lowest first.
+fn push_word(draft: &mut Draft, number: u32, place: Place) -> Result<(), Stop>
+    ensures { ResultOr (λ _. draft_view draft.new) result
+        (with_code (draft_view draft.old) (word_bytes number) (has_zero (word_bytes number)) place) }
+{
+    let bytes = number.to_le_bytes();
+    push_bytes(&mut draft.code, &bytes, place)?;
+    draft.stops = draft.stops || bytes.iter().any(|byte| *byte == 0);
+    Ok(())
+}
+
 // Appends what a statement says.
 fn push_statement(draft: &mut Draft, statement: Statement, place: Place) -> Result<(), Stop>
     ensures { ResultOr (λ _. draft_view draft.new) result
@@ -227,6 +238,7 @@ fn push_statement(draft: &mut Draft, statement: Statement, place: Place) -> Resu
         Statement::Nothing => Ok(()),
         Statement::Plain(insn) => push_plain(draft, insn, place),
         Statement::Byte(byte) => push_byte(draft, byte, place),
+        Statement::Word(number) => push_word(draft, number, place),
         Statement::Loop { counter, times } => begin_loop(draft, counter, times, place),
         Statement::LoopEnd { condition, end } => end_loop(draft, condition, end, place),
         Statement::Endless => begin_endless(draft, place),

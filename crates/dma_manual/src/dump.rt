@@ -10,9 +10,17 @@ use dma_text::lines::is_blank;
 /// What the last byte of a text was a part of.
 #[derive(Clone, Copy)]
 pub enum Place {
-    /// The blanks that a line begins with.
+    /// A line end.
     Start,
-    /// A heading.
+    /// The blanks that a line begins with.
+    Indent,
+    /// The front of a line above the addresses, of which this many bytes are those of a title.
+    Title {
+        matched: usize,
+    },
+    /// The rest of the title.
+    Titled,
+    /// The rest of a line above the addresses that is no title.
     Heading,
     /// A word of a log's line, before the address.
     Word,
@@ -26,7 +34,9 @@ pub enum Place {
         value: u64,
     },
     /// The space between an address and a symbol.
-    Open,
+    Open {
+        value: u64,
+    },
     /// The name of a symbol, in angle brackets.
     Symbol {
         last: u8,
@@ -79,7 +89,7 @@ pub enum Effect {
     Number(u64),
     /// It ends an element of an array, which counts `count` times.
     Element { value: u8, count: u32 },
-    /// It ends an address alone, which leaves this many bytes.
+    /// It ends an address alone, which leaves this many bytes: it leaves out zeros that fill up a group.
     Cut(usize),
 }
 
@@ -125,8 +135,12 @@ impl Scan {
     {
         let line = behind(bytes, self.before);
         match self.place {
-            Place::Start => self.start_step(form, byte),
-            Place::Heading if byte == b'\n' => self.line_end(),
+            Place::Start => self.start_step(form, false, byte),
+            Place::Indent => self.start_step(form, true, byte),
+            Place::Title { matched } => self.title_step(matched, byte),
+            Place::Titled if byte == b'\n' => self.line_end(),
+            Place::Titled => self.at(Place::Titled),
+            Place::Heading if byte == b'\n' => self.at(Place::Title { matched: 0 }),
             Place::Heading => self.at(Place::Heading),
             Place::Word => self.word_step(byte),
             Place::Break => self.break_step(byte),
@@ -134,9 +148,8 @@ impl Scan {
                 in_log,
                 digits,
                 value,
-            } => self.address_step(form, bytes.len(), in_log, digits, value, byte),
-            Place::Open if byte == b'<' => self.at(Place::Symbol { last: byte }),
-            Place::Open => Err(Cause::Byte),
+            } => self.address_step(form, bytes, in_log, digits, value, byte),
+            Place::Open { value } => self.open_step(bytes.len(), value, byte),
             Place::Symbol { last } => self.symbol_step(last, byte),
             Place::Closed => self.closed_step(form, byte),
             Place::Lead { blanks } => self.lead_step(form, blanks, byte),

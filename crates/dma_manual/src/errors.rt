@@ -107,6 +107,7 @@ fn missing_message(operand: Operand) -> &'static str
         Operand::Times => "lacks a number of times, 1 to 256",
         Operand::Event => "lacks an event, e0 to e31",
         Operand::Byte => "lacks a byte, 0 to 255",
+        Operand::Word => "lacks a number of 32 bits",
         Operand::Register => "lacks a register, SAR, CCR or DAR",
         Operand::Address => "lacks an address",
         Operand::Fields => "lacks fields or a number",

@@ -1,7 +1,7 @@
 //! The forms of dumps: what tools print around the digits of memory.
-ghost use Rattle.std.specs.Prelude.{◌≡◌, ◌≤◌, ◌<◌};
+ghost use Rattle.std.specs.Prelude.{◌≡◌, ◌≤◌, ◌<◌, true};
 ghost use Rattle.std.specs.Char.{digit_value};
-ghost use Rattle.dma_manual.specs.Forms.{bytes_first, digits_of, has_octal, has_spaced_text, is_digit_in, is_octal, is_x, least_digits, plain_forms, size_of, with_digit, words_first};
+ghost use Rattle.dma_manual.specs.Forms.{bytes_first, digits_of, has_address_digit, has_long_groups, has_spaced_text, is_digit_in, is_octal, is_x, least_digits, plain_forms, radix_of, size_of, with_address_digit, with_digit, words_first};
 
 use dma_text::digits::digit_value;
 
@@ -14,7 +14,9 @@ pub enum Column {
     Hex,
     /// An octal address, and perhaps the text between bars, as `od` has it.
     Octal,
-    /// A hexadecimal address, and the text after two spaces, below headings, as `objdump -s` has it.
+    /// A decimal address, and perhaps the text between bars, as `od -A d` has it.
+    Decimal,
+    /// A hexadecimal address, and the text after two spaces, below the title of a section, as `objdump -s` has it.
     Headed,
     /// No addresses: elements in braces, as C, `xxd -i` and `p/x` of gdb have them.
     Array,
@@ -42,6 +44,15 @@ pub struct Form {
     pub group: Group,
 }
 
+impl Form {
+    /// Returns whether a group of a line without an address could be taken for one.
+    pub fn has_long_groups(self) -> bool
+        ensures { result ≡ has_long_groups self }
+    {
+        !self.column.has_spaced_text() && self.group.digits() >= self.column.least_digits()
+    }
+}
+
 // A row of the table of forms.
 macro_rules! form {
     ($column:ident, $group:ident) => {
@@ -53,7 +64,7 @@ macro_rules! form {
 }
 
 /// The forms in the order in which they are tried if groups after a colon may be bytes.
-static BYTES_FIRST: [Form; 17] = [
+static BYTES_FIRST: [Form; 22] = [
     form!(Colon, Byte),
     form!(Colon, Word),
     form!(Colon, Long),
@@ -69,16 +80,48 @@ static BYTES_FIRST: [Form; 17] = [
     form!(Octal, Word),
     form!(Octal, Long),
     form!(Octal, Octal),
+    form!(Decimal, Byte),
+    form!(Decimal, Half),
+    form!(Decimal, Word),
+    form!(Decimal, Long),
+    form!(Decimal, Octal),
     form!(Headed, Byte),
     form!(Array, Byte),
 ];
 
 impl Column {
-    /// Returns whether addresses are octal.
-    pub fn has_octal(self) -> bool
-        ensures { result ≡ has_octal self }
+    /// Returns the radix of addresses.
+    fn radix(self) -> u8
+        ensures radix { result ≡ radix_of self }
+        ensures most { result ≤ 16 }
     {
-        matches!(self, Column::Octal)
+        match self {
+            Column::Octal => 8,
+            Column::Decimal => 10,
+            _ => 16,
+        }
+    }
+
+    /// Returns whether a byte is a digit of an address.
+    pub fn has_digit(self, byte: u8) -> bool
+        ensures value { result ≡ has_address_digit self byte }
+        ensures digit { result ≡ true → digit_value byte < 16 }
+    {
+        digit_value(byte) < self.radix()
+    }
+
+    /// Returns the address of these digits with one more digit.
+    pub fn with_digit(self, value: u64, byte: u8) -> u64
+        requires { digit_value byte < 16 }
+        ensures { result ≡ with_address_digit self value byte }
+    {
+        let front = value % (1 << 60);
+        let digit = u64::from(digit_value(byte));
+        match self {
+            Column::Octal => front * 8 + digit,
+            Column::Decimal => front * 10 + digit,
+            _ => front * 16 + digit,
+        }
     }
 
     /// Returns the least number of digits of an address.
@@ -87,7 +130,7 @@ impl Column {
         ensures most { result ≤ 6 }
     {
         match self {
-            Column::Hex | Column::Octal => 6,
+            Column::Hex | Column::Octal | Column::Decimal => 6,
             Column::Colon | Column::Headed | Column::Array => 4,
         }
     }

@@ -1,6 +1,6 @@
-//! Laws of the manual's syntax, each the contract of an empty function.
+//! Laws of the manual's syntax and of dumps, each the contract of an empty function.
 
-ghost use Rattle.dma_manual.specs.Laws.{CommentsStandInColumns, ListingsAssemble, TextsAssemble};
+ghost use Rattle.dma_manual.specs.Laws.{CommentsStandInColumns, DumpsAreReadOneWay, ListingsAssemble, TextsAssemble};
 
 /// Law: the text of each instruction assembles to the instruction's bytes.
 #[tactic(auto, using(crate::proofs::OneLine::texts_assemble))]
@@ -18,4 +18,10 @@ pub fn listings_assemble()
 #[tactic(auto, using(crate::proofs::Columns::comments_stand_in_columns))]
 pub fn comments_stand_in_columns()
     ensures { CommentsStandInColumns }
+{}
+
+/// Law: whatever bytes a text is a dump of, in whichever form, `read_pasted` with `Spelling::Dump` returns these bytes,
+/// or refuses the text.
+pub fn dumps_are_read_one_way()
+    ensures { DumpsAreReadOneWay }
 {}

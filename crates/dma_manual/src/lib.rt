@@ -7,19 +7,23 @@
 //! program or the text's first fault with its place, as a function of the text; the listing of a program assembles to
 //! the bytes that it shows, if they are at most 8,192 (`laws::listings_assemble`), and the text of each instruction to
 //! the instruction's bytes (`laws::texts_assemble`); `read_pasted` returns the bytes that digits or a dump spell, as
-//! definitions of their forms say, or why a text spells none.
+//! definitions of their forms say, or why a text spells none; if a text is a dump of some bytes in one of these forms,
+//! `Spelling::Dump` reads no other bytes from it (`laws::dumps_are_read_one_way`).
 //!
-//! Not proved: that syntax and defaults are those of the manual; that an allocation succeeds.
+//! Not proved: that syntax and defaults are those of the manual; that tools print dumps in these forms; that an
+//! allocation succeeds.
 #![tactic(auto)]
 
 pub mod array;
 pub mod assembler;
 pub mod chip_only;
 mod codec;
+pub mod doubts;
 mod draft;
 pub mod dump;
 pub mod errors;
 mod fields;
+pub mod first_bytes;
 pub mod forms;
 pub mod insns;
 pub mod laws;

@@ -1,11 +1,26 @@
-//! Reads the front of a dump's line: a heading, a log's prefix, an address.
-ghost use Rattle.std.specs.Prelude.{◌≡◌};
-ghost use Rattle.dma_manual.specs.Dump.{address_end, address_step, break_step, closed_step, cut_at, goes_on, lead_step, start_step, strange, symbol_step, with_address, word_step, zero_step};
+//! Reads the front of a dump's line: a title, a log's prefix, an address.
+ghost use Rattle.std.specs.Prelude.{◌≡◌, slice_get};
+ghost use Rattle.dma_manual.specs.Array.{is_byte_of};
+ghost use Rattle.dma_manual.specs.Dump.{address_end, address_step, break_step, closed_step, cut_at, goes_on, lead_step, open_step, start_step, symbol_step, title_step, with_address, word_step, zero_step};
 
 use crate::dump::{Cause, Effect, Place, Scan};
-use crate::forms::{Column, Form, Group, is_digit_in, is_x, with_digit};
+use crate::forms::{Column, Form, Group, is_digit_in, is_x};
+use crate::shown::{behind, is_all_zeros};
 use dma_text::digits::digit_value;
 use dma_text::lines::is_blank;
+
+/// How the line begins that objdump prints above a section's addresses.
+const TITLE: [u8; 20] = *b"Contents of section ";
+
+/// Returns whether a byte is the one of some words that follows this many others.
+fn is_byte_at(words: &[u8], matched: usize, byte: u8) -> bool
+    ensures { result ≡ is_byte_of (slice_get words.now matched) byte }
+{
+    match words.get(matched) {
+        Some(next) => byte == *next,
+        None => false,
+    }
+}
 
 /// Returns whether an address is where the bytes before it end.
 fn goes_on(first: Option<u64>, len: usize, value: u64) -> bool
@@ -34,18 +49,18 @@ impl Scan {
         Ok((scan, Effect::Nothing))
     }
 
-    /// Takes an address alone: the bytes end there, perhaps within the last group.
-    pub fn cut_at(self, group: Group, len: usize, value: u64) -> Result<(Scan, Effect), Cause>
-        ensures { result ≡ cut_at self group len value self.first }
+    /// Takes an address alone, with these bytes before it: they end there, but for zeros that fill up the last group.
+    pub fn cut_at(self, group: Group, bytes: &[u8], value: u64) -> Result<(Scan, Effect), Cause>
+        ensures { result ≡ cut_at self group bytes.now value self.first }
     {
         let Some(first) = self.first else {
             return Err(Cause::Address);
         };
-        if first > value || value - first > len as u64 {
+        if first > value || value - first > bytes.len() as u64 {
             return Err(Cause::Address);
         }
         let kept = (value - first) as usize;
-        if len - kept >= usize::from(group.size()) {
+        if bytes.len() - kept >= usize::from(group.size()) || !is_all_zeros(behind(bytes, kept)) {
             return Err(Cause::Address);
         }
         let scan = Scan {
@@ -56,28 +71,41 @@ impl Scan {
         Ok((scan, Effect::Cut(kept)))
     }
 
-    /// Takes a byte that no address has: it may be in a heading.
-    pub fn strange(self, form: Form, byte: u8) -> Result<(Scan, Effect), Cause>
-        ensures { result ≡ strange form self byte }
+    /// Takes the next byte of a line above the addresses, of which some bytes are those of a title.
+    pub fn title_step(self, matched: usize, byte: u8) -> Result<(Scan, Effect), Cause>
+        ensures { result ≡ title_step self matched byte }
     {
-        if !matches!(form.column, Column::Headed) || self.first.is_some() {
-            Err(Cause::Byte)
-        } else if byte == b'\n' {
-            self.line_end()
-        } else {
-            self.at(Place::Heading)
+        if byte == b'\n' {
+            return self.at(Place::Title { matched: 0 });
         }
+        if !is_byte_at(&TITLE, matched, byte) {
+            return self.at(Place::Heading);
+        }
+        if matched == TITLE.len() - 1 {
+            return self.at(Place::Titled);
+        }
+        self.at(Place::Title {
+            matched: matched + 1,
+        })
     }
 
-    /// Takes the next byte of a line that has only blanks so far.
-    pub fn start_step(self, form: Form, byte: u8) -> Result<(Scan, Effect), Cause>
-        ensures { result ≡ start_step form self byte }
+    /// Takes the next byte of a line that has only blanks so far. After blanks it may be an address only if no group
+    /// could be one.
+    pub fn start_step(
+        self,
+        form: Form,
+        is_indented: bool,
+        byte: u8,
+    ) -> Result<(Scan, Effect), Cause>
+        ensures { result ≡ start_step form self is_indented byte }
     {
         if byte == b'\n' {
             self.line_end()
         } else if is_blank(byte) {
-            self.at(Place::Start)
-        } else if is_digit_in(form.column.has_octal(), byte) {
+            self.at(Place::Indent)
+        } else if is_indented && form.has_long_groups() {
+            Err(Cause::Byte)
+        } else if form.column.has_digit(byte) {
             self.at(Place::Address {
                 in_log: false,
                 digits: 1,
@@ -88,7 +116,7 @@ impl Scan {
         } else if byte == b'[' && matches!(form.column, Column::Colon) {
             self.at(Place::Word)
         } else {
-            self.strange(form, byte)
+            Err(Cause::Byte)
         }
     }
 
@@ -122,23 +150,24 @@ impl Scan {
     pub fn address_end(
         self,
         form: Form,
-        len: usize,
+        bytes: &[u8],
         in_log: bool,
         value: u64,
         byte: u8,
     ) -> Result<(Scan, Effect), Cause>
-        ensures { result ≡ address_end form self len in_log value byte }
+        ensures { result ≡ address_end form self bytes.now in_log value byte }
     {
+        let len = bytes.len();
         match form.column {
             Column::Colon if byte == b':' => {
                 self.with_address(len, value, Place::Lead { blanks: 0 })
             }
             Column::Colon if in_log => self.word_step(byte),
-            Column::Colon if byte == b' ' => self.with_address(len, value, Place::Open),
+            Column::Colon if byte == b' ' => self.at(Place::Open { value }),
             Column::Colon => Err(Cause::Byte),
             _ if is_blank(byte) => self.with_address(len, value, Place::Gap),
-            Column::Headed => self.strange(form, byte),
-            _ if byte == b'\n' => self.cut_at(form.group, len, value),
+            Column::Headed => Err(Cause::Byte),
+            _ if byte == b'\n' => self.cut_at(form.group, bytes, value),
             _ => Err(Cause::Byte),
         }
     }
@@ -147,21 +176,20 @@ impl Scan {
     pub fn address_step(
         self,
         form: Form,
-        len: usize,
+        bytes: &[u8],
         in_log: bool,
         digits: u8,
         value: u64,
         byte: u8,
     ) -> Result<(Scan, Effect), Cause>
-        ensures { result ≡ address_step form self len in_log digits value byte }
+        ensures { result ≡ address_step form self bytes.now in_log digits value byte }
     {
-        let octal = form.column.has_octal();
         let least = form.column.least_digits();
-        if is_digit_in(octal, byte) {
+        if form.column.has_digit(byte) {
             self.at(Place::Address {
                 in_log,
                 digits: if digits < least { digits + 1 } else { digits },
-                value: with_digit(octal, value, byte),
+                value: form.column.with_digit(value, byte),
             })
         } else if matches!(form.column, Column::Colon) && digits == 1 && value == 0 && is_x(byte) {
             self.at(Place::Address {
@@ -170,11 +198,22 @@ impl Scan {
                 value: 0,
             })
         } else if digits >= least {
-            self.address_end(form, len, in_log, value, byte)
+            self.address_end(form, bytes, in_log, value, byte)
         } else if in_log {
             self.word_step(byte)
         } else {
-            self.strange(form, byte)
+            Err(Cause::Byte)
+        }
+    }
+
+    /// Takes the byte after an address and a space, which are those of a line only before a symbol.
+    pub fn open_step(self, len: usize, value: u64, byte: u8) -> Result<(Scan, Effect), Cause>
+        ensures { result ≡ open_step self len value byte }
+    {
+        if byte == b'<' {
+            self.with_address(len, value, Place::Symbol { last: byte })
+        } else {
+            Err(Cause::Byte)
         }
     }
 

@@ -87,18 +87,17 @@ fn loop_end_to(
     Ok(Statement::LoopEnd { condition, end })
 }
 
-// Reads what follows the jump of the DMALPEND of a DMALPFE: nothing, or `lc1`, with which its bit lc is set.
+// Reads what follows the jump of the DMALPEND of a DMALPFE: nothing, with which its bit lc is set, or the bit as `lc0` or
+// `lc1`.
 fn again_counter(rest: &[u8]) -> Result<Counter, Fault>
     ensures { result ≡ again_by (next_of rest.now) }
 {
     let Some((word, rest)) = next_word(rest) else {
-        return Ok(Counter::Lc0);
+        return Ok(Counter::Lc1);
     };
-    if !is_text(word, b"lc1") {
-        return Err(fault_at(AsmCause::Extra, word, rest));
-    }
+    let counter = counter_of(word).ok_or(fault_at(AsmCause::Extra, word, rest))?;
     no_more(rest)?;
-    Ok(Counter::Lc1)
+    Ok(counter)
 }
 
 // Reads the same of a DMALPEND that may be for a kind of request; if it is, nothing follows its jump.

@@ -41,7 +41,7 @@ impl LoopKind {
                 counter,
                 back,
             }),
-            (LoopKind::Endless, None) => Again::Always(Counter::Lc0).end(back),
+            (LoopKind::Endless, None) => Again::Always(Counter::Lc1).end(back),
             (LoopKind::Endless, Some(request)) => Again::If(request).end(back),
         }
     }

@@ -87,13 +87,13 @@ fn add_name(negative: bool) -> &'static str
     if negative { "DMAADNH " } else { "DMAADDH " }
 }
 
-// Returns what follows the jump of the DMALPEND of a DMALPFE: `lc1` if its bit lc is set.
+// Returns what follows the jump of the DMALPEND of a DMALPFE: `lc0` if its bit lc, which the manual sets, is 0.
 fn again_flag(counter: Counter) -> &'static str
     ensures { result.now ≡ again_flag counter }
 {
     match counter {
-        Counter::Lc0 => "",
-        Counter::Lc1 => ", lc1",
+        Counter::Lc0 => ", lc0",
+        Counter::Lc1 => "",
     }
 }
 

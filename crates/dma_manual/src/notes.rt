@@ -72,6 +72,7 @@ fn left_out(column: Column) -> &'static str
     match column {
         Column::Array => "; what is outside the braces is left out",
         Column::Octal => "; octal addresses and text are left out",
+        Column::Decimal => "; decimal addresses and text are left out",
         _ => "; addresses and text are left out",
     }
 }

@@ -2,9 +2,10 @@
 ghost use Rattle.std.specs.Prelude.{◌≡◌, ◌++◌, [], IfOk, MatchResult, OnOk, Some, replicate};
 ghost use Rattle.dma_insn.specs.LineReading.{ResultIs};
 ghost use Rattle.dma_manual.specs.Forms.{plain_forms, words_first};
-ghost use Rattle.dma_manual.specs.Pasted.{applied, begun, colon_form, digits_of, dump_of, ended, fit, forms_for, further, is_ambiguous, is_marked, is_whole, lacks_lines, nowhere, other_of, pasted, plain_of, read_as, read_from, says_more, taken};
+ghost use Rattle.dma_manual.specs.Pasted.{applied, begun, colon_form, digits_of, dump_of, ended, fit, forms_for, further, is_whole, lacks_lines, nowhere, other_of, pasted, plain_of, read_as, read_from, says_more, settled, taken};
 
 use crate::array::{ArrayPlace, is_of_array};
+use crate::doubts::{Doubt, doubt_of, is_marked};
 use crate::dump::{Cause, Effect, Place, Scan};
 use crate::forms::{Column, Form, Group, bytes_first, plain_forms, words_first};
 use crate::notes::ends_at_once;
@@ -55,8 +56,8 @@ pub enum Refused {
     Digits { notation: Notation, at: usize },
     /// The form that fits the longest front of it has this fault.
     Dump(Fault),
-    /// Its groups may be bytes in their order, or words.
-    Ambiguous,
+    /// It isn't surely one dump.
+    Unsure(Doubt),
 }
 
 /// Appends the bytes of a group's value, the lowest first.
@@ -97,6 +98,7 @@ fn begun(form: Form) -> Scan
 {
     let place = match form.column {
         Column::Array => Place::Array(ArrayPlace::Front),
+        Column::Headed => Place::Title { matched: 0 },
         _ => Place::Start,
     };
     Scan {
@@ -176,7 +178,7 @@ fn finish(
 }
 
 /// Returns the bytes of a text and whether it is surely a dump, or its first fault, if it is read in a form.
-fn read_as(
+pub fn read_as(
     alloc: Global,
     form: Form,
     text: &[u8],
@@ -242,20 +244,6 @@ fn forms_for(notation: Notation) -> &'static [Form]
     }
 }
 
-/// Returns whether a dump in a form may as well be read as bytes after a colon.
-fn is_ambiguous(alloc: Global, form: Form, text: &[u8]) -> Result<bool, AllocError>
-    ensures { IfOk result (λ is. is ≡ is_ambiguous form text.now) }
-{
-    let has_words = matches!(
-        (form.column, form.group),
-        (Column::Colon, Group::Half | Group::Word | Group::Long)
-    );
-    if !has_words {
-        return Ok(false);
-    }
-    Ok(read_as(alloc, colon_form(Notation::Pairs), text)?.is_ok())
-}
-
 impl Dump {
     /// Returns the program of a dump.
     fn pasted(self) -> Pasted
@@ -268,19 +256,32 @@ impl Dump {
     }
 }
 
+/// Returns the program of a dump, unless something of it is doubtful.
+fn settled(
+    alloc: Global,
+    forms: &[Form],
+    dump: Dump,
+    text: &[u8],
+) -> Result<Result<Pasted, Refused>, AllocError>
+    ensures { IfOk result (λ read. ResultIs (λ it. (it.form, it.bytes.items)) read
+        (settled forms.now text.now (dump.form, dump.bytes.items, dump.is_sure))) }
+{
+    let column = dump.form.column;
+    match doubt_of(alloc, forms, column, dump.is_sure, text, &dump.bytes)? {
+        Some(doubt) => Ok(Err(Refused::Unsure(doubt))),
+        None => Ok(Ok(dump.pasted())),
+    }
+}
+
 /// Returns the program of a text that is a dump.
 fn read_dump(alloc: Global, text: &[u8]) -> Result<Result<Pasted, Refused>, AllocError>
     ensures { IfOk result (λ read. ResultIs (λ it. (it.form, it.bytes.items)) read
         (dump_of text.now (fit words_first nowhere text.now))) }
 {
-    let dump = match fit(alloc, words_first(), text)? {
-        Ok(dump) => dump,
-        Err(fault) => return Ok(Err(Refused::Dump(fault))),
-    };
-    if is_ambiguous(alloc, dump.form, text)? {
-        return Ok(Err(Refused::Ambiguous));
+    match fit(alloc, words_first(), text)? {
+        Ok(dump) => settled(alloc, words_first(), dump, text),
+        Err(fault) => Ok(Err(Refused::Dump(fault))),
     }
-    Ok(Ok(dump.pasted()))
 }
 
 /// Returns whether a dump lacks lines.
@@ -298,10 +299,10 @@ fn read_plain(
     text: &[u8],
 ) -> Result<Result<Pasted, Refused>, AllocError>
     ensures { IfOk result (λ read. ResultIs (λ it. (it.form, it.bytes.items)) read
-        (plain_of bytes.items (fit plain_forms nowhere text.now))) }
+        (plain_of bytes.items text.now (fit plain_forms nowhere text.now))) }
 {
     match fit(alloc, plain_forms(), text)? {
-        Ok(dump) if dump.is_sure => Ok(Ok(dump.pasted())),
+        Ok(dump) if dump.is_sure => settled(alloc, plain_forms(), dump, text),
         Err(fault) if ends_at_once(&bytes) && lacks_lines(fault) => Ok(Err(Refused::Dump(fault))),
         _ => Ok(Ok(Pasted { form: None, bytes })),
     }
@@ -343,13 +344,6 @@ fn says_more(fault: Fault, at: usize) -> bool
     fault.is_dump && (at < fault.at || matches!(fault.cause, Cause::Star))
 }
 
-/// Returns whether a colon or braces show that a text is no program in digits.
-fn is_marked(column: Column) -> bool
-    ensures { result ≡ is_marked column }
-{
-    matches!(column, Column::Colon | Column::Array)
-}
-
 /// Returns the program of a text whose digits have a fault, if it is a dump.
 fn read_other(
     alloc: Global,
@@ -358,10 +352,12 @@ fn read_other(
     text: &[u8],
 ) -> Result<Result<Pasted, Refused>, AllocError>
     ensures { IfOk result (λ read. ResultIs (λ it. (it.form, it.bytes.items)) read
-        (other_of notation at (fit (forms_for notation) nowhere text.now))) }
+        (other_of notation at text.now (fit (forms_for notation) nowhere text.now))) }
 {
     match fit(alloc, forms_for(notation), text)? {
-        Ok(dump) if dump.is_sure || is_marked(dump.form.column) => Ok(Ok(dump.pasted())),
+        Ok(dump) if dump.is_sure || is_marked(dump.form.column) => {
+            settled(alloc, plain_forms(), dump, text)
+        }
         Err(fault) if says_more(fault, at) => Ok(Err(Refused::Dump(fault))),
         _ => Ok(Err(Refused::Digits { notation, at })),
     }

@@ -1,8 +1,9 @@
 //! What is printed for a text that spells no program.
 ghost use Rattle.std.specs.Prelude.{◌≡◌, ◌++◌, IfOk, OnOk};
 ghost use Rattle.dma_io.specs.Answer.{prints_of};
-ghost use Rattle.dma_manual.specs.Refusal.{ambiguous_message, at_fault, cause_message, dump_message, refusal};
+ghost use Rattle.dma_manual.specs.Refusal.{at_fault, cause_message, doubt_message, dump_message, refusal};
 
+use crate::doubts::Doubt;
 use crate::dump::Cause;
 use crate::pasted::{Fault, Refused};
 use dma_io::answer::Answer;
@@ -54,14 +55,26 @@ fn dump_message(alloc: Global, text: &[u8], fault: Fault) -> Result<Vec<u8>, All
     Ok(err)
 }
 
-/// Returns what is wrong with a text whose groups may be bytes or words.
-fn ambiguous_message(alloc: Global) -> Result<Vec<u8>, AllocError>
-    ensures { IfOk result (λ err. err.items ≡ ambiguous_message) }
+/// Returns what a dump may be besides what it looks like, and what to add.
+fn doubt_words(doubt: Doubt) -> &'static str
+    ensures { result.now ≡ doubt_message doubt }
+{
+    match doubt {
+        Doubt::Order =>
+            " the groups may be bytes in this order, as xxd prints them (--hex), or words, as md does (--words)\n",
+        Doubt::Radix =>
+            " the addresses fit in two radices, with other bytes in each: print single bytes (hexdump -C, od -t x1)\n",
+        Doubt::Address =>
+            " nothing shows that the line begins with an address: add the line after it, or a colon to the address\n",
+    }
+}
+
+/// Returns the message for a text that isn't surely a dump.
+fn doubt_message(alloc: Global, doubt: Doubt) -> Result<Vec<u8>, AllocError>
+    ensures { IfOk result (λ err. err.items ≡ doubt_message doubt) }
 {
     let mut err = Vec::new(alloc);
-    let message =
-        " the groups may be bytes in this order, as xxd prints them (--hex), or words, as md does (--words)\n";
-    print(&mut err, &message)?;
+    print(&mut err, &doubt_words(doubt))?;
     Ok(err)
 }
 
@@ -72,7 +85,7 @@ pub fn refusal(alloc: Global, why: Refused, text: &[u8]) -> Result<Answer, Alloc
     let err = match why {
         Refused::Digits { notation, at } => digits_message(alloc, notation, text, at)?,
         Refused::Dump(fault) => dump_message(alloc, text, fault)?,
-        Refused::Ambiguous => ambiguous_message(alloc)?,
+        Refused::Unsure(doubt) => doubt_message(alloc, doubt)?,
     };
     Ok(Answer::new(Vec::new(alloc), err, Vec::new(alloc), false))
 }

@@ -1,6 +1,6 @@
 //! Bytes as the text of a dump shows them.
 ghost use Rattle.std.specs.Prelude.{◌≡◌, drop};
-ghost use Rattle.dma_manual.specs.Dump.{leading_spaces, shown_as};
+ghost use Rattle.dma_manual.specs.Dump.{is_all_zeros, leading_spaces, shown_as};
 
 /// Returns how a byte is shown as text.
 pub fn shown_as(byte: u8) -> u8
@@ -21,6 +21,13 @@ pub fn behind(bytes: &[u8], from: usize) -> &[u8]
     } else {
         &[]
     }
+}
+
+/// Returns whether bytes are all 0.
+pub fn is_all_zeros(bytes: &[u8]) -> bool
+    ensures { result ≡ is_all_zeros bytes.now }
+{
+    bytes.iter().all(|byte| *byte == 0)
 }
 
 /// Returns how many spaces bytes begin with.

@@ -1,7 +1,7 @@
 //! Reads one line of assembly text.
 
 ghost use Rattle.std.specs.Prelude.{◌≡◌, map};
-ghost use Rattle.dma_manual.specs.Statements.{add_line, address_line, address_of, bare, by_name, byte_line, control_line, event_line, label_of, label_view, set_line, set_value, statement_at, wait_line};
+ghost use Rattle.dma_manual.specs.Statements.{add_line, address_line, address_of, bare, by_name, byte_line, control_line, event_line, label_of, label_view, set_line, set_value, statement_at, wait_line, word_line};
 
 use crate::assembler::{AsmCause, Fault, Operand};
 use crate::fields::fields_at;
@@ -37,7 +37,7 @@ pub enum End {
 /// When the DMALPEND of a DMALPFE jumps.
 #[derive(Clone, Copy)]
 pub enum Again {
-    /// Always. The counter is the instruction's bit lc, which has no effect.
+    /// Always. The counter is the instruction's bit lc, which has no effect, and which the manual sets.
     Always(Counter),
     /// At a request of this kind.
     If(Request),
@@ -50,6 +50,7 @@ pub enum Statement {
     /// An instruction that needs nothing of the lines before it.
     Plain(ManualInsn),
     Byte(u8),
+    Word(u32),
     Loop {
         counter: Option<Counter>,
         times: Times,
@@ -120,6 +121,16 @@ fn byte_line(name: &[u8], rest: &[u8]) -> Result<Statement, Fault>
     let byte = number_at(AsmCause::Byte, 0, 255, word, word, rest)?;
     no_more(rest)?;
     Ok(Statement::Byte(byte as u8))
+}
+
+// Reads the number after DCD.
+fn word_line(name: &[u8], rest: &[u8]) -> Result<Statement, Fault>
+    ensures { result ≡ word_line name.now rest.now }
+{
+    let (word, rest) = operand_after(Operand::Word, name, rest)?;
+    let number = number_at(AsmCause::Value, 0, 0xffff_ffff, word, word, rest)?;
+    no_more(rest)?;
+    Ok(Statement::Word(number as u32))
 }
 
 // Reads a value of 32 bits, the last word of a line.
@@ -239,6 +250,8 @@ fn by_name(labels: &[Named], name: &[u8], rest: &[u8]) -> Result<Statement, Faul
         bare(Statement::Endless, rest)
     } else if is_text(name, b"dcb") {
         byte_line(name, rest)
+    } else if is_text(name, b"dcd") {
+        word_line(name, rest)
     } else {
         by_other_name(labels, name, rest)
     }

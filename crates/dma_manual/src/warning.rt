@@ -15,7 +15,7 @@ use std::alloc::AllocError;
 pub struct Warning {
     /// The first DMALPEND that doesn't jump to the start of the open loop of its kind.
     pub stray: Option<Stray>,
-    /// Whether the text has a DMAEND or a `DCB` of 0, or the program has no bytes.
+    /// Whether the text has a DMAEND, or a `DCB` or a `DCD` with a byte 0, or the program has no bytes.
     pub stops: bool,
 }
 

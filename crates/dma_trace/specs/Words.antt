@@ -6,7 +6,7 @@ use Rattle.dma_text.specs.Digits.{hex_digits, hex_pair}
 use Rattle.dma_insn.specs.declared.control.ControlFault.TheVariants.{ReservedSize, Swap, Bit31}
 use Rattle.dma_insn.specs.{declared.chip.ChipInsn.ChipInsn, declared.chip.ChipInsn.TheVariants.Mov, ControlWord.control_of, ControlWord.field}
 use Rattle.dma_insn.specs.{declared.control.Control.Control, declared.control.ControlFault.ControlFault}
-use Rattle.dma_manual.specs.{ChipOnly.chip_only_name, ChipOnly.needs_chip_bus, ManualText.manual_text}
+use Rattle.dma_manual.specs.{ChipOnly.chip_only_name, ChipOnly.needs_chip_bus, FirstBytes.field_words, FirstBytes.insn_name, ManualText.manual_text}
 use Rattle.dma_chan.specs.declared.turn.FaultKind.TheVariants.{UndefInstr, OperandInvalid, MfifoErr, StDataUnavailable, InstrFetchErr, DataWriteErr}
 use Rattle.dma_chan.specs.declared.turn.FaultKind.TheVariants.{DataReadErr}
 use Rattle.dma_chan.specs.{declared.bus.Bus.Bus, declared.turn.FaultKind.FaultKind, declared.bursts.Burst.Burst, Bursts.burst_len, Bursts.span_of}
@@ -66,12 +66,16 @@ front_text width f =
 abbrev pub chip_only_at : Option ℕ → Option (List ℕ)
 chip_only_at first = option_and_then chip_only_name first
 
+-- the name of the instruction that begins with this byte, if it has more bytes or some channel doesn't execute it
+abbrev pub name_at : Option ℕ → Option (List ℕ)
+name_at first = option_and_then insn_name first
+
 -- whether a channel executes the instruction that begins with this byte on a chip's bus alone
 abbrev pub on_chip_bus : Option ℕ → Bool
 on_chip_bus (Some b) = needs_chip_bus b
 on_chip_bus None = false
 
--- what the model has in place of an instruction, by the name of the chip's instruction
+-- what is named in place of an instruction that isn't decoded, by its name
 abbrev pub absent_text : Option (List ℕ) → List ℕ
 absent_text (Some name) = name
 absent_text None = codes "no instruction"
@@ -79,7 +83,7 @@ absent_text None = codes "no instruction"
 -- the next instruction
 abbrev pub next_text : Option ℕ → Result ChipInsn FaultKind → List ℕ
 next_text first (Ok i) = manual_text i
-next_text first (Err kind) = absent_text (chip_only_at first)
+next_text first (Err kind) = absent_text (name_at first)
 
 -- ---- faults
 
@@ -105,10 +109,15 @@ abbrev pub operand_words : ChipInsn → Bus → List ℕ
 operand_words (Mov reg w) bus = control_words bus (control_of w)
 operand_words i bus = codes "a field is outside its range"
 
+-- which field of an instruction that begins with this byte is refused, and why
+abbrev pub field_at : Option ℕ → List ℕ
+field_at (Some b) = field_words b
+field_at None = codes "a field is outside its range"
+
 -- why an operand is refused
-abbrev pub refused_words : Result ChipInsn FaultKind → Front → List ℕ
-refused_words (Ok i) f = operand_words i f.registers.bus
-refused_words (Err kind) f = codes "a field is outside its range"
+abbrev pub refused_words : Option ℕ → Result ChipInsn FaultKind → Front → List ℕ
+refused_words first (Ok i) f = operand_words i f.registers.bus
+refused_words first (Err kind) f = field_at first
 
 -- why no instruction is fetched: a jump, no byte here, or too few
 abbrev pub fetch_words : Option ℕ → Result ChipInsn FaultKind → List ℕ
@@ -127,7 +136,7 @@ undefined_words None on_chip = codes "no instruction begins with this byte"
 -- What is wrong with an instruction that fails, by the registers and the buffer before it
 unfoldable pub fault_words : FaultKind → Option ℕ → Result ChipInsn FaultKind → Front → List ℕ
 fault_words UndefInstr first next f = undefined_words (chip_only_at first) (on_chip_bus first)
-fault_words OperandInvalid first next f = refused_words next f
+fault_words OperandInvalid first next f = refused_words first next f
 fault_words MfifoErr first next f =
     codes "the buffer holds " ++ bytes_text f.held ++ (codes ", the load adds " ++ decimal (burst_len (source_of f.registers)))
     ++ codes ", and 256 fit"

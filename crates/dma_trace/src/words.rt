@@ -7,7 +7,7 @@ ghost use Rattle.dma_insn.specs.ControlWord.{control_of};
 ghost use Rattle.dma_chan.specs.declared.turn.FaultKind.{FaultKind};
 ghost use Rattle.dma_text.specs.Text.{Begins};
 ghost use Rattle.dma_trace.specs.Front.{point_of};
-ghost use Rattle.dma_trace.specs.Words.{cause_text, chip_only_at, control_text, control_words, end_text, fault_name, fault_text, fault_words, fetch_words, long_text, next_text, operand_words, on_chip_bus, place_text, refused_words, state_text, undefined_words};
+ghost use Rattle.dma_trace.specs.Words.{cause_text, chip_only_at, control_text, control_words, end_text, fault_name, fault_text, fault_words, fetch_words, field_at, long_text, name_at, next_text, operand_words, on_chip_bus, place_text, refused_words, state_text, undefined_words};
 
 use crate::amounts::{Bytes, Instructions, Offset, Range};
 use crate::columns::FrontColumns;
@@ -21,6 +21,7 @@ use dma_explain::explain::tracer::read_of;
 use dma_insn::chip::ChipInsn;
 use dma_insn::control::{Control, ControlFault};
 use dma_manual::chip_only::{chip_only_name, needs_chip_bus};
+use dma_manual::first_bytes::{field_words, insn_name};
 use dma_manual::manual::Manual;
 use dma_text::text::{Address, Text};
 use std::alloc::AllocError;
@@ -119,6 +120,14 @@ fn chip_only_at(first: Option<u8>) -> Option<&'static str>
     chip_only_name(first?)
 }
 
+// Returns the name of the instruction that begins with this byte, if it has more bytes or some channel doesn't execute
+// it.
+fn name_at(first: Option<u8>) -> Option<&'static str>
+    ensures { option_map (λ name. name.now) result ≡ name_at first }
+{
+    insn_name(first?)
+}
+
 // Returns whether a channel executes the instruction that begins with this byte on a chip's bus alone.
 fn on_chip_bus(first: Option<u8>) -> bool
     ensures { result ≡ on_chip_bus first }
@@ -142,9 +151,7 @@ impl Text for Ahead<'_> {
     fn push(&self, out: &mut Vec<u8>) -> Result<(), AllocError> {
         match *self.next {
             Ok(insn) => Manual(insn).push(out),
-            Err(_) => chip_only_at(self.first)
-                .unwrap_or("no instruction")
-                .push(out),
+            Err(_) => name_at(self.first).unwrap_or("no instruction").push(out),
         }
     }
 }
@@ -194,15 +201,25 @@ fn push_operand(bus: Bus, insn: ChipInsn, out: &mut Vec<u8>) -> Result<(), Alloc
     }
 }
 
+// Returns which field of an instruction that begins with this byte is refused, and why.
+fn field_at(first: Option<u8>) -> &'static str
+    ensures { result.now ≡ field_at first }
+{
+    match first {
+        Some(byte) => field_words(byte),
+        None => "a field is outside its range",
+    }
+}
+
 // Appends why an operand is refused.
-fn push_refused(at: &Point, out: &mut Vec<u8>) -> Result<(), AllocError>
+fn push_refused(first: Option<u8>, at: &Point, out: &mut Vec<u8>) -> Result<(), AllocError>
     ensures ok { OnOk result
-        (out.new.items ≡ out.old.items ++ refused_words at.now.ahead at.now.front) }
+        (out.new.items ≡ out.old.items ++ refused_words first at.now.ahead at.now.front) }
     ensures begins { Begins out.new.items out.old.items }
 {
     match at.ahead {
         Ok(insn) => push_operand(at.front.registers.bus, insn, out),
-        Err(_) => "a field is outside its range".push(out),
+        Err(_) => field_at(first).push(out),
     }
 }
 
@@ -247,7 +264,7 @@ fn push_fault(
     let stores = destination_burst(&at.front.registers);
     match kind {
         FaultKind::UndefInstr => undefined_words(first).push(out),
-        FaultKind::OperandInvalid => push_refused(at, out),
+        FaultKind::OperandInvalid => push_refused(first, at, out),
         FaultKind::MfifoErr => {
             let len = loads.len();
             (
