@@ -247,8 +247,8 @@ in_c() {
     counted walk "$rows" $lines
     counted refuse "$rows" $lines $heap
     counted channels tests/channels.txt tests/words.c tests/rows.c $heap
-    for it in device_test device_bursts device_chip device_registers device_rows device_saves device_wild \
-        explaining explaining_work; do
+    for it in device_test device_bursts device_chip device_events device_registers device_rows device_saves \
+        device_wild explaining explaining_work; do
         counted $it "" tests/guest.c $heap
     done
     counted drivers "" tests/driver_*.c tests/guest.c $heap

@@ -797,10 +797,10 @@ int32_t dma330_device_write(dma330_device *device, uint32_t offset, uint32_t val
 /* Takes a turn of a channel: at most `most` steps. The turn ends after a step that ends, waits, fails or executes a
  * DMASEV. It also ends before a store that neither overlaps nor touches the range written so far, and before one with
  * which the range would have all 2^32 addresses. After the DMASEV of an interrupt it takes one more step, mostly the
- * DMAEND, since a driver's handler expects its channel to be stopped; if that step is such a store, it is left to the
- * next turn. Whatever the guest's program is, a step wrote each address in `turn->written`, each lies in a region that
- * isn't read-only, and no byte elsewhere has changed. Does nothing for a channel that is stopped or faulting, or that
- * the device doesn't have. Codes: BAD_REGIONS. */
+ * DMAEND, since a driver's handler expects its channel to be stopped; a store is left to the next turn, so that at the
+ * interrupt no more is copied than before its DMASEV. Whatever the guest's program is, a step wrote each address in
+ * `turn->written`, each lies in a region that isn't read-only, and no byte elsewhere has changed. Does nothing for a
+ * channel that is stopped or faulting, or that the device doesn't have. Codes: BAD_REGIONS. */
 int32_t dma330_device_step(dma330_device *device, uint8_t channel, uint32_t most, const dma330_region *regions,
                            size_t region_count, dma330_device_turn *turn) DMA330_NO_NULLS;
 
@@ -832,14 +832,16 @@ int32_t dma330_device_explain_work(dma330_device *device, uint8_t channel, uint3
                                    size_t zeros_room, dma330_moment *moments, size_t moments_room,
                                    dma330_work *work) DMA330_NO_NULLS;
 
-/* Writes the registers and counts of a channel, as dma330_channel_registers does. After each turn of a program that a DMAGO
- * started and dma330_device_explain_work explained before the first turn, `stored` bytes of its `dst` and `zeros` are done, of
- * each list the first ones, also if the channel then waits or is faulting, if nobody else writes what the program reads or
- * writes. Codes: NO_CHANNEL. Since 1.6.0. */
+/* Writes the registers and counts of a channel, as dma330_channel_registers does. If the channel has failed, they are
+ * those from before the instruction that failed, whatever the fault is. After each turn of a program that a DMAGO
+ * started and dma330_device_explain_work explained before the first turn, `stored` bytes of its `dst` and `zeros` are
+ * done, of each list the first ones, also if the channel then waits or is faulting, if nobody else writes what the
+ * program reads or writes. Codes: NO_CHANNEL. Since 1.6.0. */
 int32_t dma330_device_registers(dma330_device *device, uint8_t channel, dma330_registers *registers) DMA330_NO_NULLS;
 
-/* Writes the lines irq[31:0]. A high line stays high until the guest clears its interrupt by INTCLR, a reset, or a restore
- * of a device in which it is low. */
+/* Writes the lines irq[31:0]. A high line stays high until the guest clears its interrupt by INTCLR, a reset, or a
+ * restore of a device in which it is low. INTCLR clears what INTEN makes an interrupt then, also an event that was set
+ * before INTEN did so. */
 int32_t dma330_device_irqs(dma330_device *device, uint32_t *lines) DMA330_NO_NULLS;
 
 /* Writes 1 if the line irq_abort is high, else 0. It is high until the guest kills each faulting thread. */

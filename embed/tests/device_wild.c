@@ -210,30 +210,13 @@ static uint32_t marked(dma330_segment range)
     return count;
 }
 
-static bool touch(dma330_segment a, dma330_segment b)
-{
-    return a.addr <= b.addr + b.len && b.addr <= a.addr + a.len;
-}
-
-static uint32_t stores_left;
-
-/* A turn writes what single steps write. If one of these is a DMASEV of an interrupt and then a store apart from what the
- * turn wrote, that store is left to the next turn. */
+/* A turn writes what single steps write. */
 static void check_by_steps(uint32_t channel, uint32_t most)
 {
-    dma330_segment first, left = {0, 0};
-
     copy(&before, &m);
     turn(&m, channel, most);
-    first = m.written;
-    if (!follows(channel, most)) {
-        turn(&m, channel, 1);
-        left = m.written;
-        check(follows(channel, most), "single steps do the same", channel);
-        check(first.len > 0 && (left.len == 0 || !touch(first, left)), "only a store apart is left", left.addr);
-        stores_left += left.len > 0;
-    }
-    check(marked(first) == first.len + left.len && marked(left) == first.len + left.len, "each byte is written", first.addr);
+    check(follows(channel, most), "single steps do the same", channel);
+    check(marked(m.written) == m.written.len, "each byte is written", m.written.addr);
 }
 
 static uint32_t several_turns;
@@ -314,7 +297,6 @@ int main(void)
 {
     for (uint32_t seed = 1; seed <= 200; seed++)
         outlives_anything(seed * 2654435761u);
-    check(stores_left > 0, "stores are left to a next turn", stores_left);
     check(several_turns > 0, "some calls take several turns", several_turns);
     return end_checks();
 }

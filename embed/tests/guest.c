@@ -314,8 +314,7 @@ static uint32_t executed(machine *m, uint32_t channel)
 }
 
 /* Lets a channel take a turn, and returns whether this may be its number of steps, by how many instructions it
- * executed. A last step that waits or fails isn't executed, but a DMASEV of an event that the device doesn't have is
- * executed and fails. */
+ * executed. A last step that waits or fails isn't executed. */
 static bool takes_steps(machine *m, uint32_t channel, uint32_t most, uint64_t steps)
 {
     uint32_t before = executed(m, channel), former = get(m, CSR + 8 * channel) % 16, status;
@@ -323,9 +322,7 @@ static bool takes_steps(machine *m, uint32_t channel, uint32_t most, uint64_t st
     turn(m, channel, most);
     status = get(m, CSR + 8 * channel) % 16;
     steps -= executed(m, channel) - before;
-    if (status == 15 && former != 15)
-        return steps <= 1;
-    return steps == (most > 0 && status == 4);
+    return steps == (most > 0 && (status == 4 || (status == 15 && former != 15)));
 }
 
 bool take_rows(machine *m, machine *by_one, uint32_t channel, uint32_t most)

@@ -1,15 +1,15 @@
 -- A call does nothing, or it takes steps; a turn has two calls.
 use Rattle.std.proofs.Common.{◌≡◌, ◌⊎◌, ℕ, ◌+◌, ◌^◌, ◌<◌, Bool, true, false, List, Option, Some, None, ap, arith, refl, subst}
 use Rattle.std.specs.{Prelude.nat_lt, Prelude.slice_get, Option.option_map_or}
-use Rattle.std.proofs.lemmas.Bool.{and_parts}
+use Rattle.std.proofs.lemmas.Bool.{and_parts, not-true}
 use Rattle.dma_mem.specs.Regions.{image_of, pieces_of}
-use Rattle.dma_mem.specs.{Flags.flags_of, Marking.MarkList, declared.regions.Region.Region, declared.segment.Segment.Segment}
+use Rattle.dma_mem.specs.{Flags.flags_of, Marking.MarkList, declared.regions.Region.Region}
 use Rattle.dma_chan.specs.Stepping.{Machine, TakesSteps, signal_after, written_after}
-use Rattle.dma_chan.specs.{Written.joined, Written.range_at, declared.turn.ChanTurn.ChanTurn}
+use Rattle.dma_chan.specs.{Channel.ahead_of, Written.range_at, declared.turn.ChanTurn.ChanTurn}
 use Rattle.dma_device.specs.CallSteps.{StepsThread, first_in, last_in, machine_after, marks_in, second_in, signal_in}
-use Rattle.dma_device.specs.Turns.{Outcome, Setup, TakesTurn, begins, called_if, follows, idle, is_beside, lines_differ, machine_in}
-use Rattle.dma_device.specs.Turns.{runs_at, setup_of, stepped, steps_in, with_flags}
-use Rattle.dma_device.specs.{Device.DeviceValue, Device.with_thread, Thread.answered, Thread.runs, declared.device.turns.Called.Called}
+use Rattle.dma_device.specs.Turns.{Outcome, Setup, TakesTurn, begins, called_if, follows, idle, lines_differ, machine_in}
+use Rattle.dma_device.specs.Turns.{raises, runs_at, runs_without_store, setup_of, stepped, steps_in, with_flags}
+use Rattle.dma_device.specs.{Device.DeviceValue, Device.with_thread, Thread.answered, Thread.is_store, Thread.runs, declared.device.turns.Called.Called}
 use Rattle.dma_device.specs.{declared.device.turns.Turn.Turn, declared.thread.Thread.Thread}
 use Rattle.dma_device.proofs.FlagNumber.{number_is}
 
@@ -86,11 +86,19 @@ runs_found d n t found = ap (λ (o : Option Thread). option_map_or runs o false)
 pub begins_runs : (d : DeviceValue) (n most : ℕ) → begins d n most ≡ true → runs_at d n ≡ true
 begins_runs d n most on = (and_parts (nat_lt 0 most) (runs_at d n) on).1
 
-beside_runs : (range : Segment) (o : Option Thread) → is_beside range o ≡ true → option_map_or runs o false ≡ true
-beside_runs range o h = grind (arith, and_parts)
+storeless_runs : (o : Option Thread) → runs_without_store o ≡ true → option_map_or runs o false ≡ true
+storeless_runs o h = grind (arith, and_parts)
 
 pub follows_runs : (d : DeviceValue) (n : ℕ) (first : Called) → follows d n first ≡ true → runs_at d n ≡ true
-follows_runs d n first on = grind (arith, beside_runs, and_parts)
+follows_runs d n first on = grind (arith, storeless_runs, and_parts)
+
+-- and its next instruction is no store
+storeless_at : (o : Option Thread) (t : Thread) → o ≡ Some t → runs_without_store o ≡ true → is_store (ahead_of t.channel) ≡ false
+storeless_at o t is on = grind (arith, and_parts, not-true)
+
+pub follows_storeless : (d : DeviceValue) (n : ℕ) (first : Called) (t : Thread) → follows d n first ≡ true → slice_get d.threads n ≡ Some t
+    → is_store (ahead_of t.channel) ≡ false
+follows_storeless d n first t on found = storeless_at (slice_get d.threads n) t found (and_parts (raises d first.signal) _ on).1
 
 module _ {d e : DeviceValue} {regions left : List Region} {n most : ℕ} {turn : Turn} (x : TakesTurn d regions n most e left turn) where
   pub turn_left : (second_in d regions n most).left ≡ setup_of e left
@@ -102,7 +110,7 @@ module _ {d e : DeviceValue} {regions left : List Region} {n most : ℕ} {turn :
   pub turn_image : (second_in d regions n most).left.image ≡ image_of (pieces_of left)
   turn_image = ap (λ (s : Setup). s.image) turn_left
 
-  pub turn_written : joined (first_in d regions n most).called.written (second_in d regions n most).called.written ≡ turn.written
+  pub turn_written : (first_in d regions n most).called.written ≡ turn.written
   turn_written = ap (λ (p : Setup × Turn). p.1.written) x.is
 
   pub turn_lines : lines_differ d (second_in d regions n most).left.device ≡ turn.lines_changed

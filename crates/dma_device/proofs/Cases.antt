@@ -1,10 +1,10 @@
 -- What the debug instruction, a DMAGO and a write of a register leave, case by case.
-use Rattle.std.proofs.Common.{◌≡◌, ◌≢◌, ℕ, ◌+◌, ◌/◌, ◌%◌, Bool, true, false, ◌&&◌, List, Option, Some, None, inl, inr, refl, bit_and, w32, arith}
-use Rattle.std.specs.{Prelude.◌==◌, Prelude.if◌then◌else◌, Prelude.not, Prelude.slice_get, Int.bit_not}
+use Rattle.std.proofs.Common.{◌≡◌, ◌≢◌, ℕ, ◌+◌, ◌/◌, ◌%◌, Bool, true, false, ◌&&◌, List, Option, Some, None, inl, inr, refl, bit_and, arith}
+use Rattle.std.specs.{Prelude.◌==◌, Prelude.if◌then◌else◌, Prelude.not, Prelude.slice_get}
 use Rattle.std.proofs.lemmas.Bool.{cond_both, eqb-false, eqb-true}
 use Rattle.dma_insn.specs.ControlWord.{field}
 use Rattle.dma_mem.specs.Regions.{Piece}
-use Rattle.dma_device.specs.Device.{DeviceValue, all_events, by_manager, by_thread, debugged, go, is_event, manager_failed, program_at, signalled, with_thread}
+use Rattle.dma_device.specs.Device.{DeviceValue, all_events, by_manager, by_thread, cleared_by, debugged, go, is_event, manager_failed, program_at, signalled, with_thread}
 use Rattle.dma_device.specs.Device.{written}
 use Rattle.dma_device.specs.Thread.{dbg_instr, dmago_err, failed, is_faulting, is_stopped, killed, operand_invalid, started, undef_instr}
 use Rattle.dma_device.specs.{declared.device.Manager.Manager, declared.thread.Thread.Thread, Faults.TheChannel, Frame.IsDmago, Frame.Names}
@@ -106,7 +106,7 @@ module _ (P : DeviceValue → Type 0) where
   -- after a write of a register
   pub record WriteCases (ram : List Piece) (at value : ℕ) (d : DeviceValue) : Type 0 where
     pub inten : P (record d { inten = bit_and value (all_events d) })
-    pub intclr : (at == offset.intclr) ≡ true → P (record d { interrupts = bit_and d.interrupts (bit_not w32 (bit_and value d.inten)) })
+    pub intclr : (at == offset.intclr) ≡ true → P (cleared_by value d)
     pub dbgcmd : (at == offset.dbgcmd) ≡ true → (value % 4 == 0) ≡ true → P (debugged ram d)
     pub dbginst0 : P (record d { dbginst0 = value })
     pub dbginst1 : P (record d { dbginst1 = value })

@@ -21,7 +21,7 @@ use Rattle.dma_device.proofs.Calls.{acts_alike, call_acts, call_is, call_keeps, 
 use Rattle.dma_device.proofs.FlagSteps.{Is, IsClear, Passes, clear_since, passed, waits_at}
 use Rattle.dma_device.proofs.Interrupts.{Exact, all_have, restored_bit, exact_if_same, flag_bit, hidden, seen_bit, NonePass, below, flag_left, flag_sets}
 use Rattle.dma_device.proofs.Interrupts.{flags_left}
-use Rattle.dma_device.proofs.{WriteRaises.dbgcmd_raises, WriteRaises.has_kept, WriteRaises.others_keep, Found.set_found, Iff.iff_or}
+use Rattle.dma_device.proofs.{WriteRaises.dbgcmd_raises, WriteRaises.has_kept, WriteRaises.intclr_lowers, WriteRaises.others_keep, Found.set_found, Iff.iff_or}
 use Rattle.dma_device.proofs.History as history
 
 -- ---- a call
@@ -239,7 +239,9 @@ module _ (d : DeviceValue) (regions : List Region) (n most k : ℕ) (has : HasLi
 
 write_exact : (k at value : ℕ) (d : DeviceValue) (regions : List Region) → HasLine d k → let e = written (pieces_of regions) at value d in
     Exact k d.events e.events (Sets k (Writes at value) d regions) (Ends k (Writes at value) d regions)
-write_exact k at value d regions has = grind (arith, dbgcmd_raises false d (pieces_of regions) value k, others_keep false d (pieces_of regions) at value)
+write_exact k at value d regions has =
+    let keeps = others_keep false d (pieces_of regions) at value in
+    grind (arith, intclr_lowers false d (pieces_of regions) value k has, dbgcmd_raises false d (pieces_of regions) value k, keeps)
 
 turn_exact : (k n most : ℕ) (d e : DeviceValue) (regions left : List Region) (turn : Turn) → HasLine d k → TakesTurn d regions n most e left turn
     → Exact k d.events e.events (Sets k (Turns n most) d regions) (Ends k (Turns n most) d regions)

@@ -138,7 +138,7 @@ write_exact who at value d regions = elim (cases_eq at offset.dbgcmd) [
 
 -- ---- a call
 
-answer_faults : (events : ℕ) (th : Thread) (last : Option ChanTurn) (signal : Option ℕ)
+pub answer_faults : (events : ℕ) (th : Thread) (last : Option ChanTurn) (signal : Option ℕ)
     → (is_faulting (answer events th last signal) ≡ true) ↔ LastFails events last signal
 answer_faults events th last signal = grind (arith, nat_tests)
 

@@ -5,7 +5,7 @@ use Rattle.std.proofs.{Math.Pow.pow-lt, lemmas.Bool.and_parts, lemmas.List.Eleme
 use Rattle.dma_insn.specs.ControlWord.{field}
 use Rattle.dma_mem.specs.{Marking.MarkList, Regions.Piece, Regions.pieces_of, declared.regions.Region.Region}
 use Rattle.dma_device.specs.Accesses.{Access, Answer, Does, Resets, Restores, Turned, Turns, Writes}
-use Rattle.dma_device.specs.Device.{DeviceValue, all_events, debugged, is_event, program_at, reset_device, signalled, written}
+use Rattle.dma_device.specs.Device.{DeviceValue, all_events, cleared_by, debugged, is_event, program_at, reset_device, signalled, written}
 use Rattle.dma_device.specs.Turns.{Setup, called_if, machine_in, number_of, steps_in, with_flags}
 use Rattle.dma_device.specs.{declared.config.Config.Config, CallSteps.last_in, CallSteps.signal_in, Idle.IsSoundDevice, Idle.NothingHappens, Idle.StaySound}
 use Rattle.dma_device.specs.{Snapshot.IsDeviceValue, Thread.IsSound, Thread.failed, Thread.killed, Thread.reset_thread, Thread.started}
@@ -38,11 +38,11 @@ written_sound : (ram : List Piece) (at value : ℕ) (d : DeviceValue) → IsSoun
 written_sound ram at value d h =
     let n = d.config.events in
     let enabled : DeviceValue = record d { inten = bit_and value (all_events d) } in
-    let lowered : DeviceValue = record d { interrupts = bit_and d.interrupts (bit_not w32 (bit_and value d.inten)) } in
+    let kept = bit_not w32 (bit_and value d.inten) in
     write_cases IsSoundDevice ram at value d (record {
       inten = same_threads d enabled h refl refl h.known.events h.known.interrupts (and_known value n);
-      intclr = λ is. same_threads d lowered h refl refl h.known.events (and_fewer d.interrupts (bit_not w32 (bit_and value d.inten)) n h.known.interrupts)
-          h.known.inten;
+      intclr = λ is. same_threads d (cleared_by value d) h refl refl (and_fewer d.events kept n h.known.events)
+          (and_fewer d.interrupts kept n h.known.interrupts) h.known.inten;
       dbgcmd = λ _ _. debugged_sound ram d h;
       dbginst0 = same_threads d (record d { dbginst0 = value }) h refl refl h.known.events h.known.interrupts h.known.inten;
       dbginst1 = same_threads d (record d { dbginst1 = value }) h refl refl h.known.events h.known.interrupts h.known.inten;

@@ -129,7 +129,7 @@ write_exact : (k at value : ℕ) (d : DeviceValue) (regions : List Region) → H
     Exact k (irqs d) (irqs e) (Raises k (Writes at value) d regions) (Clears k (Writes at value) d)
 write_exact k at value d regions has =
     let keeps = others_keep true d (pieces_of regions) at value in
-    grind (arith, intclr_lowers d (pieces_of regions) value k has, dbgcmd_raises true d (pieces_of regions) value k, keeps)
+    grind (arith, intclr_lowers true d (pieces_of regions) value k has, dbgcmd_raises true d (pieces_of regions) value k, keeps)
 
 turn_exact : (k n most : ℕ) (d e : DeviceValue) (regions left : List Region) (turn : Turn) → HasLine d k → TakesTurn d regions n most e left turn
     → Exact k (irqs d) (irqs e) (Raises k (Turns n most) d regions) (Clears k (Turns n most) d)

@@ -33,6 +33,8 @@ pub mod StepsAlike
 pub mod TurnsAlike
 pub mod Explaining
 pub mod Underway
+pub mod Exactly
+pub mod Shown
 pub mod Progress
 pub mod Refused
 pub mod Signalled

@@ -209,7 +209,7 @@ ris_both = refl
 irqs_both : irqs both ≡ 0x2
 irqs_both = refl
 
--- the interrupt is cleared, and the event is not
+-- the interrupt is cleared, and the event, which INTEN doesn't make one, is not
 ris_cleared : read_at (written ram 0x02C 0x6 both) 0x024 ≡ 0x4
 ris_cleared = refl
 
@@ -229,9 +229,16 @@ irqs_turned_over = refl
 events_turned_over : visible_events turned_over ≡ 0
 events_turned_over = refl
 
--- INTCLR clears an interrupt only while INTEN makes it one
-ris_turned_over : read_at (written ram 0x02C 0x6 turned_over) 0x024 ≡ 0x6
+-- INTCLR clears only what INTEN makes an interrupt: here the event, and not the interrupt
+ris_turned_over : read_at (written ram 0x02C 0x6 turned_over) 0x024 ≡ 0x2
 ris_turned_over = refl
+
+irqs_cleared : irqs (written ram 0x02C 0x6 turned_over) ≡ 0x2
+irqs_cleared = refl
+
+-- and once INTEN makes it one again, no event is left of it
+events_cleared : visible_events (written ram 0x020 0x2 (written ram 0x02C 0x6 turned_over)) ≡ 0
+events_cleared = refl
 
 -- ---- a run: INTEN, DMAGO of channel 3, a turn, INTCLR
 

@@ -95,7 +95,7 @@ by_steps events seen t at s v marks most (suc (suc j)) last signal few can same 
     let new = ap (λ (c : ChannelValue). c.taken) (answer_channel events at last signal ∙ is ∙ ap (λ (m : Machine). m.channel) x.ends_at) in
     inl (omega (arith, up, ap (λ (c : ChannelValue). c.taken) same, new))
 
-call_found : (marks : MarkList) (n most : ℕ) (s : Setup) (made : Bool) (x : StepsThread made n s)
+pub call_found : (marks : MarkList) (n most : ℕ) (s : Setup) (made : Bool) (x : StepsThread made n s)
     → slice_get (called_if made marks n most s).left.device.threads n ≡ Some (thread_left marks most x.thread s)
 call_found marks n most s made x = grind (arith, call_acts, set_found)
 

@@ -7,7 +7,7 @@ use Rattle.std.proofs.{lemmas.List.length-append, lemmas.List.length-replicate, 
 use Rattle.dma_insn.specs.ControlWord.{flag}
 use Rattle.dma_mem.specs.Regions.{bytes_above, pieces_of}
 use Rattle.dma_mem.specs.{Marking.MarkList, declared.regions.Region.Region, declared.segment.Segment.Segment}
-use Rattle.dma_chan.specs.{Channel.ChannelValue, LentRegions.segment_of, Written.joined, declared.turn.ChanTurn.ChanTurn}
+use Rattle.dma_chan.specs.{Channel.ChannelValue, LentRegions.segment_of, declared.turn.ChanTurn.ChanTurn}
 use Rattle.dma_explain.proofs.InOrder.{marks_kept}
 use Rattle.dma_device.specs.Device.{DeviceValue, channel_register, device_register, faulting_bits, irq_abort, irqs, of_thread, read_at}
 use Rattle.dma_device.specs.Device.{with_thread}
@@ -128,7 +128,7 @@ lines_same d e v w h k = rw (irqs_same h, irqs_same k, abort_same h, abort_same 
 
 -- what a turn of two such calls reports
 abbrev turn_of : Called → Called → Bool → Turn
-turn_of first second changed = record { written = joined first.written second.written; lines_changed = changed; taken = first.taken + second.taken }
+turn_of first second changed = record { written = first.written; lines_changed = changed; taken = first.taken + second.taken }
 
 pub bytes_dont_matter : BytesDontMatter
 bytes_dont_matter marks n most s u h = grind (arith, call_alike, begins_same, follows_same, lines_same)

@@ -1,15 +1,16 @@
 -- How far a program that a DMAGO starts has got after a turn.
-use Rattle.std.proofs.Common.{◌≡◌, ℕ, ◌<◌, List, [], Some, refl, subst, arith, inl, inr}
-use Rattle.std.specs.Prelude.{slice_get}
+use Rattle.std.proofs.Common.{◌≡◌, ℕ, ◌-◌, ◌<◌, Bool, true, false, List, [], Some, refl, subst, arith, inl, inr}
+use Rattle.std.specs.Prelude.{if◌then◌else◌, slice_get}
 use Rattle.dma_explain.specs.Explains.{all_of}
-use Rattle.dma_chan.specs.Stepping.{machine}
+use Rattle.dma_chan.specs.{Channel.ChannelValue, Stepping.machine}
 use Rattle.dma_explain.proofs.{CallsAmongOthers.done_at, SinceLoads.all_done, SinceLoads.part_first, SinceLoads.runs_so, SinceLoads.worked_part}
 use Rattle.dma_device.specs.Dmago.{image_in}
-use Rattle.dma_device.specs.{Underway.DmagoUnderway, Underway.HasDone, Underway.KilledKeepsCounts, declared.thread.Thread.Thread}
+use Rattle.dma_device.specs.Underway.{DmagoUnderway, HasCountsOf, HasDone, KilledKeepsCounts}
+use Rattle.dma_device.specs.{Thread.is_at_next, Thread.killed, declared.thread.Thread.Thread}
 use Rattle.dma_device.proofs.Driven.{Call, Copying, Drive, Stands, Steps, along, copying, drive, one_at, turned, two_at}
 
 -- no more is known of a call than that its program goes on or has ended
-steps_plain : (c : Copying) (n : ℕ) (k : Call) → Steps c n (Unit {0}) (λ th. Unit {0}) (Unit {0}) (λ th. Unit {0}) k
+pub steps_plain : (c : Copying) (n : ℕ) (k : Call) → Steps c n (Unit {0}) (λ th. Unit {0}) (Unit {0}) (λ th. Unit {0}) k
 steps_plain c n k = grind arith
 
 module _ (x : Drive) where
@@ -47,5 +48,27 @@ module _ (x : Drive) where
 pub dmago_underway : DmagoUnderway
 dmago_underway go work n run h k th less is = done_after (drive go work n run h k less) k th less is
 
+-- ---- what a thread shows
+
+-- what it shows, by whether CPC is the address of the next instruction
+abbrev pub shown_if : Bool → Thread → ChannelValue
+shown_if here t =
+    if here then t.channel else record (t.channel) {
+      registers = record (t.channel.registers) { pc = t.channel.registers.pc - 2 };
+      taken = t.channel.taken - 1;
+    }
+
+killed_shows : (here : Bool) (t : Thread) → HasCountsOf (shown_if here (killed t)) (shown_if here t)
+killed_shows true t = record { registers = refl; taken = refl; stored = refl }
+killed_shows false t = record { registers = refl; taken = refl; stored = refl }
+
+shows_stored : (here : Bool) (t : Thread) → (shown_if here t).stored ≡ t.channel.stored
+shows_stored true t = refl
+shows_stored false t = refl
+
 pub killed_keeps_counts : KilledKeepsCounts
-killed_keeps_counts t = record { registers = refl; taken = refl; stored = refl }
+killed_keeps_counts = record {
+  kept = λ t. record { registers = refl; taken = refl; stored = refl };
+  seen = λ t. killed_shows (is_at_next t) t;
+  stored = λ t. shows_stored (is_at_next t) t;
+}

@@ -44,7 +44,7 @@ pub record Waits (events flags : ℕ) (t : Thread) : Type 0 where
   pub status : t.status ≡ WaitingForEvent at.event
   pub here : t.pc ≡ (t.base + t.channel.registers.pc) % 2 ^ 32
 
-is_wfe : (next : Result ChipInsn FaultKind) (e : ℕ) → waits_for e next ≡ true → (v : Bool) × (next ≡ Ok (Wfe e v))
+pub is_wfe : (next : Result ChipInsn FaultKind) (e : ℕ) → waits_for e next ≡ true → (v : Bool) × (next ≡ Ok (Wfe e v))
 is_wfe next e h = grind (arith, eqb-true)
 
 waits_by : (events flags : ℕ) (t : Thread) (s : Status) → t.status ≡ s → has_status events t s ≡ true → is_signalled flags s ≡ false → Waits events flags t

@@ -8,30 +8,45 @@ use Rattle.std.specs.{Prelude.◌↔◌, Prelude.if◌then◌else◌, Prelude.�
 use Rattle.dma_insn.specs.ControlWord.{field}
 use Rattle.dma_mem.specs.Regions.{Piece}
 use Rattle.dma_device.specs.declared.thread.Thread.{Thread}
-use Rattle.dma_device.specs.Device.{DeviceValue, all_events, by_manager, by_thread, go, irqs, is_event, is_interrupt, signalled, written}
+use Rattle.dma_device.specs.Device.{DeviceValue, all_events, by_manager, by_thread, go, is_event, is_interrupt, signalled, written}
 use Rattle.dma_device.specs.Interrupts.{DebugSignals, HasLine, IsHigh, can_debug, is_fine}
 use Rattle.dma_device.proofs.Cases.{branch, debug_cases, go_cases, manager_cases, thread_cases, write_cases}
 use Rattle.dma_device.proofs.Iff.{iff_or, same_or}
 use Rattle.dma_device.specs.Offsets as offset
+
+-- ---- the interrupts, or the events
+
+abbrev pick : Bool → ℕ → ℕ → ℕ
+pick true a b = a
+pick false a b = b
+
+-- the interrupts that are set, or the events
+abbrev pub word_of : Bool → DeviceValue → ℕ
+word_of kind d = pick kind d.interrupts d.events
 
 -- ---- INTCLR
 
 by_intclr : (r i v line : ℕ) → r < 2 → i < 2 → v < 2 → line ≡ min r (1 - min v i) → (line ≡ 1) ↔ ((r ≡ 1) × ¬ ((v ≡ 1) × (i ≡ 1)))
 by_intclr r i v line rb ib vb is = grind arith
 
--- after a write to INTCLR line k is high exactly if it was high before, and the write doesn't clear it
-pub intclr_lowers : (d : DeviceValue) (ram : List Piece) (value k : ℕ) → HasLine d k
-    → IsHigh (irqs (written ram offset.intclr value d)) k ↔ (IsHigh (irqs d) k × ¬ (IsHigh value k × IsHigh d.inten k))
-intclr_lowers d ram value k has =
+word_lowers : (d : DeviceValue) (word value k : ℕ) → HasLine d k
+    → IsHigh (bit_and word (bit_not w32 (bit_and value d.inten))) k ↔ (IsHigh word k × ¬ (IsHigh value k × IsHigh d.inten k))
+word_lowers d word value k has =
     let below : k < 32 = omega (arith, has.events, has.event) in
     let cleared = bit_and value d.inten in
     let few : cleared < 2 ^ 32 = omega (arith, and_le_r value d.inten, has.inten) in
-    by_intclr (bit_at d.interrupts k) (bit_at d.inten k) (bit_at value k) (bit_at (irqs (written ram offset.intclr value d)) k)
-    (bit_at-lt d.interrupts k) (bit_at-lt d.inten k) (bit_at-lt value k)
-    (bit_at_and d.interrupts (bit_not w32 cleared) k
-    ∙ ap (λ (m : ℕ). min (bit_at d.interrupts k) m) (
+    by_intclr (bit_at word k) (bit_at d.inten k) (bit_at value k) (bit_at (bit_and word (bit_not w32 cleared)) k)
+    (bit_at-lt word k) (bit_at-lt d.inten k) (bit_at-lt value k)
+    (bit_at_and word (bit_not w32 cleared) k
+    ∙ ap (λ (m : ℕ). min (bit_at word k) m) (
     bit_at_not w32 cleared k few below
     ∙ ap (λ (m : ℕ). 1 - m) (bit_at_and value d.inten k)))
+
+-- after a write to INTCLR bit k of the word is 1 exactly if it was 1 before, and the write doesn't clear it
+pub intclr_lowers : (kind : Bool) (d : DeviceValue) (ram : List Piece) (value k : ℕ) → HasLine d k
+    → IsHigh (word_of kind (written ram offset.intclr value d)) k ↔ (IsHigh (word_of kind d) k × ¬ (IsHigh value k × IsHigh d.inten k))
+intclr_lowers true d ram value k has = word_lowers d d.interrupts value k has
+intclr_lowers false d ram value k has = word_lowers d d.events value k has
 
 -- ---- other registers
 
@@ -60,21 +75,10 @@ write_has k ram at value d has =
       other = has;
     })
 
-abbrev pick : Bool → ℕ → ℕ → ℕ
-pick true a b = a
-pick false a b = b
-
--- the interrupts that are set, or the events
-abbrev pub word_of : Bool → DeviceValue → ℕ
-word_of kind d = pick kind d.interrupts d.events
-
-pick_other : (kind : Bool) (a b c : ℕ) → kind ≢ true → pick kind a c ≡ pick kind b c
-pick_other kind a b c h = grind (arith)
-
--- a write to any register but DBGCMD and, for interrupts, INTCLR leaves the word as it is
-pub others_keep : (kind : Bool) (d : DeviceValue) (ram : List Piece) (at value : ℕ) → at ≢ offset.dbgcmd → (at ≡ offset.intclr → kind ≢ true)
+-- a write to any register but DBGCMD and INTCLR leaves the word as it is
+pub others_keep : (kind : Bool) (d : DeviceValue) (ram : List Piece) (at value : ℕ) → at ≢ offset.dbgcmd → at ≢ offset.intclr
     → word_of kind (written ram at value d) ≡ word_of kind d
-others_keep kind d ram at value not_dbgcmd not_intclr = grind (arith, eqb-true, pick_other, write_cases)
+others_keep kind d ram at value not_dbgcmd not_intclr = grind (arith, eqb-true, write_cases)
 
 -- ---- the debug instruction
 

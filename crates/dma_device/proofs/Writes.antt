@@ -1,25 +1,26 @@
 -- What a turn writes: it lies in the regions, and in none that is read-only.
-use Rattle.std.proofs.Common.{◌≡◌, ◌∙◌, ℕ, zero, suc, ◌≤◌, Bool, true, List, Option, Some, ap, refl, sym, subst, arith, inl, inr, ◌+◌, ◌-◌, ◌<◌, false, ◌&&◌}
+use Rattle.std.proofs.Common.{◌≡◌, ◌∙◌, ℕ, zero, suc, ◌≤◌, Bool, true, List, ap, refl, sym, subst, arith, inl, inr, ◌+◌, ◌-◌, ◌<◌, false, ◌&&◌}
 use Rattle.std.proofs.Common.{◌||◌, [], ◌∷◌, ◌++◌, length, Result, true≢false}
-use Rattle.std.specs.{Prelude.◌==◌, Prelude.nat_lt, Prelude.not, List.Contains, List.list_any}
+use Rattle.std.specs.{Prelude.nat_lt, Prelude.not, List.Contains, List.list_any}
 use Rattle.std.proofs.Math.Bool.{or-true}
 use Rattle.std.proofs.lemmas.Bool.{and_parts, cases_lt, le-leb, lt-ltb, not-true, or_parts, true_from_ne_false}
 use Rattle.std.proofs.lemmas.List.Folds.{list_all_at}
 use Rattle.dma_mem.specs.Regions.{Piece, bytes_above, end_of, gaps_above, gaps_of, has, image_of, in_order, pieces_of, read_only_of, rises_from}
 use Rattle.dma_mem.specs.{Marking.MarkList, Marking.is_marked, Marking.lies_in, declared.segment.Segment.Segment, Lent.lies_in_any, Lent.stores_at}
 use Rattle.dma_mem.specs.{declared.marks.MarkKind.TheVariants.Writing, declared.regions.Region.Region}
-use Rattle.dma_chan.specs.Written.{KeepsOutside, LiesIn, adjoins, also_written, joined, range_at, store_ahead}
+use Rattle.dma_chan.specs.Written.{KeepsOutside, LiesIn, also_written, range_at, store_ahead, stored_range}
 use Rattle.dma_chan.specs.{Stepping.Machine, Stepping.answer_at, Stepping.written_after, Stepping.Wrote, Stepping.after_steps, declared.turn.ChanTurn.ChanTurn}
+use Rattle.dma_chan.specs.{declared.exec.Registers.Registers}
 use Rattle.dma_chan.specs.{declared.turn.ChanTurn.TheVariants.Moved, declared.turn.FaultKind.FaultKind, Bursts.reaches, Bursts.touched, Channel.ahead_of}
 use Rattle.dma_chan.specs.{Channel.state_of, Exec.State, Exec.act, Exec.destination_of, Exec.exec_fetched, NextWrites.written_by}
 use Rattle.dma_chan.proofs.{CallWrites.call_writes_no_other, StepsTaken.steps_few, StepsTaken.steps_move, SteppedOver.writes_each, SteppedOver.steps_size}
-use Rattle.dma_chan.proofs.{WrittenRanges.in_joined, WrittenRanges.joined_first, WrittenRanges.joined_none, WrittenRanges.of_either, PlacesKept.long_above}
-use Rattle.dma_device.specs.Turns.{Outcome, Setup, begins, called_if, follows, is_beside, machine_in, setup_of, steps_in}
-use Rattle.dma_device.specs.{declared.thread.Thread.Thread, CallSteps.first_in, CallSteps.marks_in, CallSteps.second_in, Writes.CallWrote}
+use Rattle.dma_chan.proofs.{PlacesKept.long_above}
+use Rattle.dma_device.specs.Turns.{Outcome, Setup, begins, called_if, follows, machine_in, setup_of, steps_in}
+use Rattle.dma_device.specs.{CallSteps.first_in, CallSteps.marks_in, CallSteps.second_in, Thread.is_store, Writes.CallWrote}
 use Rattle.dma_device.specs.{Writes.TurnWritesEach, Writes.TurnWritesInRegions}
 use Rattle.dma_insn.specs.{declared.chip.ChipInsn.ChipInsn, declared.chip.ChipInsn.TheVariants.St, declared.chip.ChipInsn.TheVariants.StoreZeros}
 use Rattle.dma_mem.proofs.{GapMarks.is_marked_at, GapMarks.stores_in, Pieces.first}
-use Rattle.dma_device.proofs.Calls.{call_acts, call_is, takes, turn_image, turn_written}
+use Rattle.dma_device.proofs.Calls.{call_acts, call_is, follows_storeless, takes, turn_image, turn_written}
 use borrow.Author.Tests.{ltb-true}
 
 -- ---- a call
@@ -45,29 +46,33 @@ call_writes made marks n most s a i = elim (call_is made marks n most s) [
   )
 ]
 
--- ---- the range of one more step
+-- ---- one more step, which is no store
 
-adjoins_none : (w r : Segment) → r.len ≡ 0 → adjoins w r ≡ true
-adjoins_none w r none = rw none (rw (or-true (w.len == 0)) refl)
+range_none : (next : Result ChipInsn FaultKind) (r : Registers) → is_store next ≡ false → stored_range next r ≡ range_at 0 0
+range_none next r off = grind (arith)
 
-by_length : (w r : Segment) → adjoins w r ≡ true → adjoins w (joined (range_at 0 0) r) ≡ true
-by_length w r close = grind (arith, adjoins_none, joined_first, joined_none)
+by_answer : (r : Segment) (turn : ChanTurn) → r ≡ range_at 0 0 → also_written turn r (range_at 0 0) ≡ range_at 0 0
+by_answer r turn none = grind (arith)
 
-by_answer : (w r : Segment) (turn : ChanTurn) → adjoins w r ≡ true → adjoins w (also_written turn r (range_at 0 0)) ≡ true
-by_answer w r turn h = grind (arith, by_length, adjoins_none)
+by_count : (marks : MarkList) (s : Machine) (k : ℕ) → k ≤ 1 → is_store (ahead_of s.channel) ≡ false → written_after marks s k ≡ range_at 0 0
+by_count marks s zero few off = refl
+by_count marks s (suc zero) few off =
+    by_answer (store_ahead s.channel) (answer_at marks s) (range_none (ahead_of s.channel) s.channel.registers off)
+by_count marks s (suc (suc k)) few off = absurd (omega arith)
 
-by_count : (w : Segment) (marks : MarkList) (s : Machine) (k : ℕ) → k ≤ 1 → adjoins w (store_ahead s.channel) ≡ true
-    → adjoins w (written_after marks s k) ≡ true
-by_count w marks s zero few close = adjoins_none w (range_at 0 0) refl
-by_count w marks s (suc zero) few close = by_answer w (store_ahead s.channel) (answer_at marks s) close
-by_count w marks s (suc (suc k)) few close = absurd (omega arith)
-
-beside_of : (w : Segment) (o : Option Thread) (t : Thread) → o ≡ Some t → is_beside w o ≡ true → adjoins w (store_ahead t.channel) ≡ true
-beside_of w o t h1 h2 = grind arith
-
-pub second_beside : (marks : MarkList) (n : ℕ) (first : Outcome)
-    → adjoins first.called.written (called_if (follows first.left.device n first.called) marks n 1 first.left).called.written ≡ true
-second_beside marks n first = grind (arith, adjoins_none, beside_of, by_count, call_acts, call_is, steps_few, takes)
+-- the second call of a turn writes nothing
+second_writes_none : (marks : MarkList) (n : ℕ) (first : Outcome)
+    → (called_if (follows first.left.device n first.called) marks n 1 first.left).called.written ≡ range_at 0 0
+second_writes_none marks n first =
+    let goes = follows first.left.device n first.called in
+    elim (call_is goes marks n 1 first.left) [
+      | inl rests ↦ ap (λ (o : Outcome). o.called.written) rests.is
+      | inr acts ↦
+          let t = acts.thread in
+          ap (λ (o : Outcome). o.called.written) (call_acts marks 1 acts)
+          ∙ by_count marks (machine_in first.left t) (steps_in marks 1 t first.left) (steps_few (takes marks 1 t first.left))
+          (follows_storeless first.left.device n first.called t acts.on acts.found)
+    ]
 
 -- ---- a turn
 
@@ -81,18 +86,14 @@ turn_writes_each d regions n most e left turn x =
     let one = call_keeps (begins d n most) marks n most s in
     let two = subst (λ (i : List ℕ). KeepsOutside second.called.written first.left.image i) (turn_image x) (call_keeps goes marks n 1 first.left) in
     record {
-      each = λ a i.
-          elim (of_either first.called.written second.called.written a (second_beside marks n first)
-          (subst (λ (w : Segment). LiesIn w a) (sym (turn_written x)) i)) [
-            | inl old ↦ inl (call_writes (begins d n most) marks n most s a old)
-            | inr new ↦ inr (call_writes goes marks n 1 first.left a new)
-          ];
+      each = λ a i. inl (call_writes (begins d n most) marks n most s a (subst (λ (w : Segment). LiesIn w a) (sym (turn_written x)) i));
       no_other = record {
         size = two.size ∙ one.size;
         bytes = λ a off.
-            let out : ¬ LiesIn (joined first.called.written second.called.written) a = λ i. off (subst (λ (w : Segment). LiesIn w a) (turn_written x) i) in
-            two.bytes a (λ i. out (in_joined first.called.written second.called.written a (inr i)))
-            ∙ one.bytes a (λ i. out (in_joined first.called.written second.called.written a (inl i)));
+            two.bytes a (λ i.
+            let none = subst (λ (w : Segment). LiesIn w a) (second_writes_none marks n first) i in
+            absurd (omega (arith, none)))
+            ∙ one.bytes a (λ i. off (subst (λ (w : Segment). LiesIn w a) (turn_written x) i));
       };
       places = x.kept.places;
       read_only = x.kept.read_only;

@@ -4,10 +4,11 @@ use Rattle.std.specs.List.{Contains, count_by}
 use Rattle.dma_mem.specs.{Places.destinations, Places.size_of, Places.sources, Regions.in_order, Regions.pieces_of, declared.regions.Region.Region}
 use Rattle.dma_explain.specs.Explains.{IsAtLeast, IsSignal, IsWait, Work, cleared, events_in}
 use Rattle.dma_explain.specs.declared.explain.EventSync.TheVariants.{Signals, Waits}
+use Rattle.dma_explain.specs.{Changes.HasFirst, Changes.bytes_in}
 use Rattle.dma_explain.specs.{declared.explain.Amounts.Amounts, declared.explain.EventSync.EventSync, RegionsHave.HaveAll, Works.IsWorked}
 use Rattle.dma_chan.specs.declared.exec.Registers.{Registers}
 use Rattle.dma_device.specs.Dmago.{Go, RunsCopy, GivenTurns, csr_status, image_in, start_of}
-use Rattle.dma_device.specs.{Device.DeviceValue, Device.irqs, Interrupts.HasLine, Interrupts.IsHigh}
+use Rattle.dma_device.specs.{Device.DeviceValue, Device.irqs, Interrupts.HasLine, Interrupts.IsHigh, Interrupts.TurnSignals}
 
 -- Once the channel's CSR reads as stopped after a turn, the work is done from the memory at the first turn.
 abbrev pub DmagoCopies : Type 0
@@ -71,6 +72,32 @@ DmagoInterruptsEach =
     (go : Go) (w : Work) (n : ℕ) (run : GivenTurns) (i j : ℕ) (done : Amounts) (turn : ℕ → ℕ) →
     RunsCopy go w n run → IsSignalNumber (start_of go) go.program n i j done → RisesInEach run i j turn →
     (k : ℕ) → turn j ≤ k → k < run.count → AreDone w done (image_in (run.lent 0)) (image_in (run.left k))
+
+-- ---- no more than before a DMASEV
+
+-- What a program does before one of its DMASEVs of event i is done, and no more: the first destinations of the work
+-- have the bytes of their sources, the first of its zeros are 0, and each other address that it uses is as in the
+-- memory at first.
+pub record IsDoneToSignal (go : Go) (w : Work) (n i : ℕ) (first memory : List ℕ) : Type 0 where
+  pub done : Amounts
+  pub signal : IsSignal (start_of go) go.program n i done
+  pub bytes : HasFirst w done (bytes_in first) (bytes_in memory)
+
+-- So it is after each turn of the channel that executes a DMASEV of event i. (If one more step follows the DMASEV of an
+-- interrupt, it is no store.)
+abbrev pub DmagoSignalsExactly : Type 0
+DmagoSignalsExactly =
+    (go : Go) (w : Work) (n : ℕ) (run : GivenTurns) (i k : ℕ) → RunsCopy go w n run → k < run.count →
+    TurnSignals (run.before k) (run.lent k) go.channel (run.most k) i →
+    IsDoneToSignal go w n i (image_in (run.lent 0)) (image_in (run.left k))
+
+-- So it is also after each turn of the channel in which line i rose.
+abbrev pub DmagoInterruptsExactly : Type 0
+DmagoInterruptsExactly =
+    (go : Go) (w : Work) (n : ℕ) (run : GivenTurns) (i k : ℕ) → RunsCopy go w n run → k < run.count →
+    Rises run i k → IsDoneToSignal go w n i (image_in (run.lent 0)) (image_in (run.left k))
+
+-- ---- without a failure
 
 -- A device has each event of a program's DMAWFEs and DMASEVs.
 pub record DeviceHasEvents (d : DeviceValue) (go : Go) (n : ℕ) : Type 0 where

@@ -218,14 +218,22 @@ debugged ram d =
 
 -- ---- writes
 
+-- The device after a write of a value to INTCLR. Of the events that INTEN makes interrupts, those with a 1 in the value
+-- are cleared, whichever way they were set: as an interrupt (DMA-330 manual, INTCLR), and as an event, by a DMASEV that
+-- came while INTEN made it one (profile). The manual has one resource for both, and INT_EVENT_RIS shows one bit.
+-- Otherwise a driver that finds the bit set and clears it, as Linux's does, would find it again at each later interrupt.
+abbrev pub cleared_by : ℕ → DeviceValue → DeviceValue
+cleared_by value d =
+    let kept = bit_not w32 (bit_and value d.inten) in
+    record d { events = bit_and d.events kept; interrupts = bit_and d.interrupts kept }
+
 -- The device after a write to the register at an offset, with this RAM: INTEN, which changes neither events nor
--- interrupts; INTCLR, which clears those interrupts that INTEN makes interrupts, and no event (DMA-330 manual, INTCLR);
--- DBGINST0 and DBGINST1; and DBGCMD, to which a write of 0 in bits 1:0 executes the debug instruction. Other writes are
--- ignored.
+-- interrupts; INTCLR; DBGINST0 and DBGINST1; and DBGCMD, to which a write of 0 in bits 1:0 executes the debug
+-- instruction. Other writes are ignored.
 abbrev pub written : List Piece → ℕ → ℕ → DeviceValue → DeviceValue
 written ram at value d =
     if at == offset.inten then record d { inten = bit_and value (all_events d) } else (
-    if at == offset.intclr then record d { interrupts = bit_and d.interrupts (bit_not w32 (bit_and value d.inten)) } else (
+    if at == offset.intclr then cleared_by value d else (
     if at == offset.dbgcmd then (if value % 4 == 0 then debugged ram d else d) else (
     if at == offset.dbginst0 then record d { dbginst0 = value } else (
     if at == offset.dbginst1 then record d { dbginst1 = value } else d))))

@@ -3,10 +3,10 @@ use Rattle.std.specs.Prelude.{◌≡◌, ℕ, ◌<◌, ◌≤◌, Bool, true, Li
 use Rattle.dma_insn.specs.declared.chip.ChipInsn.TheVariants.{Wfe}
 use Rattle.dma_mem.specs.{Marking.MarkList, declared.regions.Region.Region}
 use Rattle.dma_chan.specs.{Channel.ahead_of, Stepping.answer_at, declared.turn.ChanTurn.TheVariants.Moved}
-use Rattle.dma_device.specs.Accesses.{Access, Answer, Does, Happen, IsExact, Resets, Restores, Turns}
+use Rattle.dma_device.specs.Accesses.{Access, Answer, Does, Happen, IsExact, Restores, Turns}
 use Rattle.dma_device.specs.{declared.device.turns.Turn.Turn, declared.thread.Status.TheVariants.WaitingForEvent, declared.thread.Thread.Thread}
-use Rattle.dma_device.specs.{CallSteps.StepsThread, CallSteps.InTurn, CallSteps.machine_after, CallSteps.marks_in, Device.DeviceValue, Interrupts.HasLine}
-use Rattle.dma_device.specs.{Interrupts.IsHigh, Interrupts.Signals, Turns.Setup, Turns.TakesTurn, Turns.begins, Turns.steps_in}
+use Rattle.dma_device.specs.{CallSteps.StepsThread, CallSteps.InTurn, CallSteps.machine_after, CallSteps.marks_in, Device.DeviceValue}
+use Rattle.dma_device.specs.{Interrupts.Clears, Interrupts.HasLine, Interrupts.IsHigh, Interrupts.Signals, Turns.Setup, Turns.TakesTurn, Turns.begins, Turns.steps_in}
 
 -- event k is set
 abbrev pub IsSet : DeviceValue → ℕ → Type 0
@@ -42,11 +42,12 @@ abbrev pub Takes : ℕ → Access → DeviceValue → List Region → Type 0
 Takes k (Turns n most) d regions = TurnTakes d regions n most k
 Takes k a d regions = ⊥
 
--- an access ends event k: it takes the event, is a reset, or restores a device in which the event isn't set
+-- An access ends event k: a turn takes the event; a write to INTCLR with bit k clears it, while bit k of INTEN is 1; a
+-- reset; or a restore of a device in which the event isn't set.
 abbrev pub Ends : ℕ → Access → DeviceValue → List Region → Type 0
-Ends k Resets d regions = Unit {0}
 Ends k (Restores saved) d regions = ¬ IsSet saved k
-Ends k a d regions = Takes k a d regions
+Ends k (Turns n most) d regions = TurnTakes d regions n most k
+Ends k a d regions = Clears k a d
 
 -- ---- along the accesses
 

@@ -2,8 +2,9 @@
 use Rattle.std.specs.Prelude.{◌≡◌, ℕ, ◌+◌, ◌-◌, ◌*◌, ◌%◌, ◌^◌, Bool, true, false, not, ◌&&◌, ◌==◌, nat_lt, List, Option, Some, None, Result, Ok, is_some}
 use Rattle.std.specs.Prelude.{if◌then◌else◌}
 use Rattle.std.specs.Int.{bit_at}
-use Rattle.dma_insn.specs.{declared.chip.ChipInsn.ChipInsn, declared.chip.ChipInsn.TheVariants.Wfe}
-use Rattle.dma_chan.specs.Channel.{ahead_of, last_count, loaded_with, unloaded_on}
+use Rattle.dma_insn.specs.declared.chip.ChipInsn.TheVariants.{St, StoreZeros, Wfe}
+use Rattle.dma_insn.specs.{declared.chip.ChipInsn.ChipInsn}
+use Rattle.dma_chan.specs.Channel.{ChannelValue, ahead_of, last_count, loaded_with, unloaded_on}
 use Rattle.dma_chan.specs.declared.turn.ChanTurn.TheVariants.{Moved, Waiting, Ended, Fault}
 use Rattle.dma_chan.specs.{declared.bus.BusWidth.BusWidth, declared.bus.Bus.TheVariants.Chip, Bus.fits, Exec.fault_bit, declared.turn.ChanTurn.ChanTurn}
 use Rattle.dma_chan.specs.{declared.turn.FaultKind.FaultKind}
@@ -61,6 +62,12 @@ runs t = is_some t.channel.program && not (is_faulting t)
 abbrev pub waits_for : ℕ → Result ChipInsn FaultKind → Bool
 waits_for e (Ok (Wfe k invalid)) = k == e
 waits_for e next = false
+
+-- whether an instruction is a store: a DMAST, or a DMASTZ, which sets bytes to 0
+abbrev pub is_store : Result ChipInsn FaultKind → Bool
+is_store (Ok St) = true
+is_store (Ok StoreZeros) = true
+is_store next = false
 
 -- whether a thread's next instruction is a DMAWFE of this event, CPC is its address, and the program may execute it
 abbrev pub is_before_wait : ℕ → Thread → Bool
@@ -148,3 +155,19 @@ answer events t (Some (Fault kind)) signal = failed (2 ^ fault_bit kind) t
 abbrev pub answered : ℕ → Thread → Option ChanTurn → Option ℕ → Thread
 answered events t last signal =
     answer events (record t { pc = (t.base + t.channel.registers.pc) % 2 ^ 32 }) last signal
+
+-- ---- what a host sees of its channel
+
+-- Whether CPC is the address of the channel's next instruction. It isn't only after a DMASEV of an event that the
+-- device doesn't have: the channel has executed it, but CPC is the address of the DMASEV, which has failed (`moved`).
+abbrev pub is_at_next : Thread → Bool
+is_at_next t = t.pc == (t.base + t.channel.registers.pc) % 2 ^ 32
+
+-- A thread's channel, with the registers and counts that a host sees. After a DMASEV that has failed they are those
+-- from before it, as after each instruction that fails.
+abbrev pub shown : Thread → ChannelValue
+shown t =
+    if is_at_next t then t.channel
+    else (
+    let before = record (t.channel.registers) { pc = t.channel.registers.pc - 2 } in
+    record (t.channel) { registers = before; taken = t.channel.taken - 1 })

@@ -3,11 +3,12 @@ use Rattle.std.specs.Prelude.{◌≡◌, ℕ, ◌+◌, ◌*◌, Bool, false, not
 use Rattle.std.specs.{Int.w32, Int.bit_not, Option.option_map_or}
 use Rattle.dma_insn.specs.ControlWord.{flag}
 use Rattle.dma_mem.specs.Regions.{image_of, pieces_of}
-use Rattle.dma_mem.specs.{Flags.flags_of, Marking.MarkList, Steps.taken_in, declared.regions.Region.Region, declared.segment.Segment.Segment}
+use Rattle.dma_mem.specs.{Flags.flags_of, Marking.MarkList, Steps.taken_in, declared.regions.Region.Region}
 use Rattle.dma_chan.specs.Stepping.{Machine, after_steps, last_of, machine, more_after, signal_after, written_after}
-use Rattle.dma_chan.specs.{LentRegions.AreKept, LentRegions.with_gaps_of, Written.adjoins, Written.joined, Written.range_at, Written.store_ahead}
+use Rattle.dma_chan.specs.{Channel.ahead_of, LentRegions.AreKept, LentRegions.with_gaps_of, Written.range_at}
 use Rattle.dma_device.specs.Device.{DeviceValue, all_events, irq_abort, irqs, is_interrupt, with_thread}
-use Rattle.dma_device.specs.{declared.thread.Thread.Thread, declared.device.turns.Called.Called, declared.device.turns.Turn.Turn, Thread.answered, Thread.runs}
+use Rattle.dma_device.specs.{declared.thread.Thread.Thread, declared.device.turns.Called.Called, declared.device.turns.Turn.Turn, Thread.answered}
+use Rattle.dma_device.specs.{Thread.is_store, Thread.runs}
 
 -- The flags that a channel sees: the events that are set. While INTEN makes an event an interrupt, channels don't see
 -- it (profile). A DMAWFE that passes clears its event, so one DMASEV wakes one waiting channel, the first that is
@@ -30,10 +31,9 @@ with_flags flags d =
 abbrev pub raises : DeviceValue → Option ℕ → Bool
 raises d signal = option_map_or (is_interrupt d) signal false
 
--- whether there is a thread that runs, and the range that its next instruction writes overlaps or touches this one, or
--- one of them is empty
-abbrev pub is_beside : Segment → Option Thread → Bool
-is_beside range thread = option_map_or (λ t. runs t && adjoins range (store_ahead t.channel)) thread false
+-- whether there is a thread that runs, and whose next instruction is no store
+abbrev pub runs_without_store : Option Thread → Bool
+runs_without_store thread = option_map_or (λ t. runs t && not (is_store (ahead_of t.channel))) thread false
 
 -- whether the device has thread `n`, and it runs
 abbrev pub runs_at : DeviceValue → ℕ → Bool
@@ -44,10 +44,9 @@ abbrev pub begins : DeviceValue → ℕ → ℕ → Bool
 begins d n most = nat_lt 0 most && runs_at d n
 
 -- Whether the second call is made, after a first one that did this and left this device: the first call's last step
--- raised an interrupt, channel `n` runs, and the range that its next instruction writes overlaps or touches the range
--- that the first call wrote, or one of them is empty.
+-- raised an interrupt, channel `n` runs, and its next instruction is no store.
 abbrev pub follows : DeviceValue → ℕ → Called → Bool
-follows d n called = raises d called.signal && is_beside called.written (slice_get d.threads n)
+follows d n called = raises d called.signal && runs_without_store (slice_get d.threads n)
 
 -- ---- a call
 
@@ -113,7 +112,7 @@ abbrev pub turned_after : MarkList → ℕ → Setup → Outcome → Setup × Tu
 turned_after marks n s first =
     let second = called_if (follows first.left.device n first.called) marks n 1 first.left in
     let turn : Turn = record {
-      written = joined first.called.written second.called.written;
+      written = first.called.written;
       taken = first.called.taken + second.called.taken;
       lines_changed = lines_differ s.device second.left.device;
     } in
@@ -121,8 +120,8 @@ turned_after marks n s first =
 
 -- What a turn of channel `n` leaves and reports: a call of at most `most` steps, if it runs. If the call's last step
 -- raised an interrupt, one more step is taken, which mostly is the program's DMAEND, since a driver's interrupt handler
--- expects its channel to be stopped (profile). A store apart from the range that the call wrote is left to the next
--- turn, so that one range has all that was written (profile).
+-- expects its channel to be stopped (profile). A store is left to the next turn, so that at the interrupt no more is
+-- copied than before its DMASEV (profile). So all that the turn writes is what the first call writes.
 abbrev pub turned : MarkList → ℕ → ℕ → Setup → Setup × Turn
 turned marks n most s = turned_after marks n s (called_if (begins s.device n most) marks n most s)
 

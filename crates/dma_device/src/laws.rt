@@ -1,7 +1,7 @@
 //! Laws of devices. Each law is the postcondition of a function that does nothing.
 
 ghost use Rattle.dma_device.specs.Board.{ABoardCopies, BoardRunsCopy, BoardSpares, BoardStaysIn};
-ghost use Rattle.dma_device.specs.Copies.{DmagoCopies, DmagoInterrupts, DmagoInterruptsEach, DmagoNeverFails};
+ghost use Rattle.dma_device.specs.Copies.{DmagoCopies, DmagoInterrupts, DmagoInterruptsEach, DmagoInterruptsExactly, DmagoNeverFails, DmagoSignalsExactly};
 ghost use Rattle.dma_device.specs.Dmago.{ImageHasBytes};
 ghost use Rattle.dma_device.specs.Events.{EventsAreExact, TakenWasSet, WaitsForUnset};
 ghost use Rattle.dma_device.specs.Explaining.{OnlyDmagoGives, RestoreKeepsWork, TurnStaysInWork, TurnsStayIn, UnderwayHasWork, WorkStays};
@@ -14,7 +14,7 @@ ghost use Rattle.dma_device.specs.Refused.{RefusedFails};
 ghost use Rattle.dma_device.specs.RowTurns.{RowsWriteEach};
 ghost use Rattle.dma_device.specs.Snapshot.{DamageIsRefused};
 ghost use Rattle.dma_device.specs.Run.{RunsStepByStep};
-ghost use Rattle.dma_device.specs.Underway.{DmagoUnderway, KilledKeepsCounts};
+ghost use Rattle.dma_device.specs.Underway.{DmagoUnderway, DmagoWaitsExactly, KilledKeepsCounts, TurnShows};
 ghost use Rattle.dma_device.specs.Writes.{TurnWritesEach, TurnWritesInRegions};
 
 /// In the memory that regions in order lend, each address of a region has the region's byte.
@@ -32,23 +32,35 @@ pub fn a_dmago_copies()
 
 /// Once a line that was low is high after a turn of such a channel, at least as many bytes are copied and set to 0 as
 /// before the first DMASEV of the line's event. Once the line rose in j turns of the channel, as it does if a handler
-/// clears it between them, at least as many bytes are copied and set to 0 as before the j-th DMASEV of the event. If
-/// the program has a DMASEV of an event that the device has and that INTEN makes an interrupt in each turn, then once
-/// CSR reads as stopped, the event's line was high after one of the turns.
+/// clears it between them, at least as many bytes are copied and set to 0 as before the j-th DMASEV of the event. Right
+/// after a turn in which the line rose, or that executed a DMASEV of the event, exactly as many are as before one of
+/// these DMASEVs. If the program has a DMASEV of an event that the device has and that INTEN makes an interrupt in each
+/// turn, then once CSR reads as stopped, the event's line was high after one of the turns.
 pub fn a_dmago_interrupts()
     ensures done { DmagoInterrupts }
     ensures done_each { DmagoInterruptsEach }
+    ensures exact { DmagoInterruptsExactly }
+    ensures exact_signal { DmagoSignalsExactly }
     ensures rises { DmagoSignals }
 {}
 
 /// After each turn of such a program, whether the channel then executes, waits, is faulting or has ended, a part of the
 /// copy is done: what the program does before one of its instructions. As many bytes are copied or set to 0 as the
 /// channel counts, the first ones, and each other byte that the program reads or writes is as it was at the first turn.
-/// The turns may go on in a restored device, if it has the same thread. A thread that is killed keeps its registers and
-/// counts, so they still say how far its program got.
+/// While it waits, this is what the program does before one of its DMAWFEs of the event for which it waits. The turns
+/// may go on in a restored device, if it has the same thread. A thread that is killed keeps its registers and counts,
+/// so they still say how far its program got.
 pub fn a_dmago_is_underway()
     ensures part { DmagoUnderway }
+    ensures waits { DmagoWaitsExactly }
     ensures killed { KilledKeepsCounts }
+{}
+
+/// After each turn of a channel, with any program, a host that looks at its registers and counts sees those of the
+/// channel ([`crate::thread::Thread::shown_pc`], `shown_taken`). If the channel failed in the turn, it sees those from
+/// before the instruction that failed, whatever the fault.
+pub fn a_fault_shows_what_was_before()
+    ensures { TurnShows }
 {}
 
 /// Such a program never fails if the regions contain all addresses that it reads and writes, none that it writes is
@@ -141,9 +153,10 @@ pub fn a_turn_writes_each()
 
 /// An event is neither lost nor invented. For every list of accesses after a reset, event n is set exactly if a
 /// channel's turn or the debug registers executed a DMASEV n while bit n of INTEN was 0, or a restored device had it
-/// set, and since then no DMAWFE has taken it, and neither a reset nor a restore of a device without it happened. So
-/// one DMASEV wakes one channel. What a DMAWFE takes was set, and INTEN made it an event. A channel that waits after
-/// its turn waits for an event that isn't set, or that INTEN makes an interrupt.
+/// set, and since then no DMAWFE has taken it, no write to INTCLR has cleared it, and neither a reset nor a restore of
+/// a device without it happened. A write to INTCLR clears it if bit n of the value and of INTEN are 1, as an interrupt.
+/// So one DMASEV wakes at most one channel. What a DMAWFE takes was set, and INTEN made it an event. A channel that
+/// waits after its turn waits for an event that isn't set, or that INTEN makes an interrupt.
 pub fn events_are_exact()
     ensures exact { EventsAreExact }
     ensures taken { TakenWasSet }

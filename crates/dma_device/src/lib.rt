@@ -21,20 +21,21 @@
 //! A program that is explained from the registers that its channel has (`dma_explain`'s specs/Explains.antt), put into
 //! RAM and started by a DMAGO, makes one simultaneous copy and sets its other ranges to 0, whatever events it waits for
 //! and signals; from any registers a transfer explains its program that is compiled for the bus. All is done once the
-//! channel's CSR reads as stopped (`laws::a_dmago_copies`). Once a line that was low is high after one of its turns, at
-//! least as much is done as before the first DMASEV of its event. If the device has the event of a DMASEV, and INTEN
-//! makes it an interrupt in each turn, then once CSR reads as stopped, the event's line was high after one of the turns
-//! (`laws::a_dmago_interrupts`). After each turn, also if the channel then waits or is faulting, the first bytes are
-//! done, as many as it counts ([`device::Device::channel`]), and the others that the program reads or writes are as
-//! before (`laws::a_dmago_is_underway`). Of other programs the laws of interrupts hold, and what specs/Turns.antt says
-//! of each turn. The program never fails, if the regions contain all addresses that it reads and writes, none that it
-//! writes is read-only, and the device has the program's events (`laws::a_dmago_never_fails`). It then finishes after
-//! as many ready turns as it executes instructions, whatever turns it gets besides (`laws::a_dmago_finishes`). A turn
-//! is ready if it may take a step and doesn't begin at a DMAWFE of an event that isn't set, or that INTEN makes an
-//! interrupt; at one it only waits (`laws::nothing_happens`). What is said of such a program holds on a board with
-//! several devices over one memory, whatever happens there in any order, if only the channel's own turns change its
-//! thread and write addresses that the program's work uses; so several channels of any devices copy at once
-//! (`laws::a_board_copies`).
+//! channel's CSR reads as stopped (`laws::a_dmago_copies`). Once a line that was low is high after one of its turns,
+//! exactly what precedes one of the DMASEVs of its event is done, and later at least as much. If the device has the
+//! event of a DMASEV, and INTEN makes it an interrupt in each turn, then once CSR reads as stopped, the event's line
+//! was high after one of the turns (`laws::a_dmago_interrupts`). After each turn, also if the channel then waits or is
+//! faulting, the first bytes are done, as many as it counts ([`device::Device::thread`]), and the others that the
+//! program reads or writes are as before (`laws::a_dmago_is_underway`). Registers and counts at a fault are those from
+//! before the instruction that failed (`laws::a_fault_shows_what_was_before`). Of other programs the laws of interrupts
+//! hold, and what specs/Turns.antt says of each turn. The program never fails, if the regions contain all addresses
+//! that it reads and writes, none that it writes is read-only, and the device has the program's events
+//! (`laws::a_dmago_never_fails`). It then finishes after as many ready turns as it executes instructions, whatever
+//! turns it gets besides (`laws::a_dmago_finishes`). A turn is ready if it may take a step and doesn't begin at a
+//! DMAWFE of an event that isn't set, or that INTEN makes an interrupt; at one it only waits (`laws::nothing_happens`).
+//! What is said of such a program holds on a board with several devices over one memory, whatever happens there in any
+//! order, if only the channel's own turns change its thread and write addresses that the program's work uses; so
+//! several channels of any devices copy at once (`laws::a_board_copies`).
 //!
 //! [`device::Device::explain`] returns what the program of a channel copies and sets to 0, or why nothing explains it:
 //! for a debugger, and for a host that refuses a DMAGO whose program touches what it must not. From the DMAGO on, until
@@ -46,7 +47,7 @@
 //!
 //! An interrupt is neither lost nor invented: from a reset on, its line is high exactly if a turn or the debug
 //! registers executed its DMASEV while INTEN made it an interrupt, or a restored device had it high, and no write to
-//! INTCLR, reset or restore has cleared it since (`laws::interrupts_are_exact`). The same holds of events, which a
+//! INTCLR, reset or restore has cleared it since (`laws::interrupts_are_exact`). The same holds of events, which also a
 //! DMAWFE takes (`laws::events_are_exact`), and of faulting threads and irq_abort, which a DMAKILL ends
 //! (`laws::faults_are_exact`). If no thread can step, nothing happens until the guest's next write
 //! (`laws::nothing_happens`). A turn leaves all threads but its channel's as they are, a write all but at most one,

@@ -2,9 +2,10 @@
 
 ghost use Rattle.std.specs.Prelude.{◌≡◌, ◌↔◌, ◌<◌, ◌^◌, IsSome, IsTrue, Ok, Some, IfOk};
 ghost use Rattle.dma_mem.specs.Regions.{pieces_of};
+ghost use Rattle.dma_chan.specs.Channel.{ahead_of};
 ghost use Rattle.dma_device.specs.Device.{csr, program_at};
 ghost use Rattle.dma_device.specs.declared.thread.Status.{Status};
-ghost use Rattle.dma_device.specs.Thread.{IsSound, answer, answered, can_step, is_before_wait, is_faulting, is_signalled, is_stopped, killed, failed, moved, reset_thread, runs, started, status_bits, waited, waits_for};
+ghost use Rattle.dma_device.specs.Thread.{IsSound, answer, answered, can_step, is_at_next, is_before_wait, is_faulting, is_signalled, is_stopped, is_store, killed, failed, moved, reset_thread, runs, shown, started, status_bits, waited, waits_for};
 
 use crate::config::BusWidth;
 use dma_chan::bus::Bus;
@@ -63,6 +64,13 @@ fn waits_for(insn: ChipInsn, event: Event) -> bool
         ChipInsn::Wfe { event: next, .. } => next.number() == event.number(),
         _ => false,
     }
+}
+
+// Returns whether an instruction is a store.
+fn is_store(insn: ChipInsn) -> bool
+    ensures { result ≡ is_store (Ok insn) }
+{
+    matches!(insn, ChipInsn::St | ChipInsn::StoreZeros)
 }
 
 impl Status {
@@ -183,6 +191,49 @@ impl Thread {
                     && self.pc == self.base.wrapping_add(self.channel.pc())
             }
             Err(_) => false,
+        }
+    }
+
+    // Returns whether the next instruction is a store.
+    pub(crate) fn is_before_store(&self) -> bool
+        requires { IsSome self.now.channel.program }
+        ensures { result ≡ is_store (ahead_of self.now.channel) }
+    {
+        match self.channel.ahead_on_bus() {
+            Ok(next) => is_store(next),
+            Err(_) => false,
+        }
+    }
+
+    // Returns whether CPC is the address of the channel's next instruction. Otherwise the instruction before it, a
+    // DMASEV, has failed.
+    fn is_at_next(&self) -> bool
+        ensures { result ≡ is_at_next self.now }
+    {
+        self.pc == self.base.wrapping_add(self.channel.pc())
+    }
+
+    /// Returns the offset in the program of the next instruction, or of the one that failed.
+    pub fn shown_pc(&self) -> u32
+        ensures { result ≡ (shown self.now).registers.pc }
+    {
+        let pc = self.channel.pc();
+        if self.is_at_next() {
+            pc
+        } else {
+            pc.saturating_sub(2)
+        }
+    }
+
+    /// Returns how many instructions the program has executed. One that failed isn't counted.
+    pub fn shown_taken(&self) -> u32
+        ensures { result ≡ (shown self.now).taken }
+    {
+        let taken = self.channel.taken();
+        if self.is_at_next() {
+            taken
+        } else {
+            taken.saturating_sub(1)
         }
     }
 

@@ -1,6 +1,6 @@
 -- What a call from C on a device does and returns.
 use Rattle.std.specs.Prelude.{◌≡◌, ◌≢◌, ℕ, ◌+◌, ◌*◌, ◌^◌, ◌≤◌, ◌<◌, ◌⊎◌, ◌==◌, Bool, true, false, not, ℤ, Option, Some, None, IsSomeAnd, if◌then◌else◌, List}
-use Rattle.std.specs.Prelude.{Result, Ok, Err, IsTrue, length, min, slice_index}
+use Rattle.std.specs.Prelude.{Result, Ok, Err, IsTrue, length, min, slice_get, slice_index}
 use Rattle.std.specs.List.{list_any}
 use Rattle.dma_mem.specs.Regions.{has, image_of, pieces_of, read_only_of}
 use Rattle.dma_mem.specs.{Lent.lies_in_any, declared.regions.Region.Region, declared.segment.Segment.Segment}
@@ -10,7 +10,7 @@ use Rattle.dma_device.specs.Accesses.{Does, Done, Reads, Resets, Restores, Turne
 use Rattle.dma_device.specs.Device.{DeviceValue, irq_abort, read_at, reset_device, written}
 use Rattle.dma_device.specs.Snapshot.{IsDeviceValue, IsOfOther, IsSavedAs, most_saved, saved_device}
 use Rattle.dma_device.specs.declared.config.Revision.TheVariants.{R0p0, R1p0, R1p1, R1p2}
-use Rattle.dma_device.specs.{Config.is_valid, Explaining.channel_of, RowTurns.TakesRowTurns, Thread.can_step, Turns.TakesTurn, Turns.visible_events}
+use Rattle.dma_device.specs.{Config.is_valid, RowTurns.TakesRowTurns, Thread.can_step, Thread.shown, Turns.TakesTurn, Turns.visible_events}
 use Rattle.dma_device.specs.{Writes.TurnWrote, declared.config.Config.Config, declared.config.Revision.Revision, declared.device.rows.RowTurns.RowTurns}
 use Rattle.dma_device.specs.{declared.device.turns.Turn.Turn, declared.save.RestoreFault.RestoreFault, declared.save.RestoreFault.TheVariants.BadSave}
 use Rattle.dma_device.specs.{declared.save.RestoreFault.TheVariants.OtherDevice}
@@ -76,12 +76,13 @@ WritesRegister regions at value d code e =
     ((code ≡ bad_regions) × (are_usable regions ≡ false) × (e ≡ d))
     ⊎ ((code ≡ ok_code) × (are_usable regions ≡ true) × (e ≡ written (pieces_of regions) at value d))
 
--- Writes the registers and counts of channel `n` of a device. Fails with `no_channel` exactly if the device doesn't have
--- the channel, and then writes nothing.
+-- Writes the registers and counts that the thread of channel `n` of a device shows: those of the channel, or, after an
+-- instruction that failed, those from before it (`TurnShows`). Fails with `no_channel` exactly if the device doesn't
+-- have the channel, and then writes nothing.
 abbrev pub WritesRegisters : ℕ → DeviceValue → ℤ → ChannelRegisters → ChannelRegisters → Type 0
 WritesRegisters n d code before after =
-    ((code ≡ no_channel) × (channel_of d n ≡ None) × (after ≡ before))
-    ⊎ ((code ≡ ok_code) × IsSomeAnd (channel_of d n) (λ c. after ≡ registers_of c))
+    ((code ≡ no_channel) × (slice_get d.threads n ≡ None) × (after ≡ before))
+    ⊎ ((code ≡ ok_code) × IsSomeAnd (slice_get d.threads n) (λ t. after ≡ registers_of (shown t)))
 
 -- ---- turns and lines
 

@@ -159,7 +159,8 @@ pub extern "C" fn dma330_device_step(
     OK
 }
 
-/// Writes the registers and counts of a channel. Fails if the device doesn't have the channel.
+/// Writes the registers and counts of a channel, after an instruction that failed those from before it. Fails if the
+/// device doesn't have the channel.
 #[unsafe(no_mangle)]
 pub extern "C" fn dma330_device_registers(
     kept: &mut KeptDevice,
@@ -174,10 +175,14 @@ pub extern "C" fn dma330_device_registers(
     let Some(device) = kept.get_mut() else {
         return NOT_OPEN;
     };
-    let Some(channel) = device.channel(channel) else {
+    let Some(thread) = device.thread(channel) else {
         return NO_CHANNEL;
     };
-    *registers = registers_of(channel);
+    *registers = ChannelRegisters {
+        pc: thread.shown_pc(),
+        taken: thread.shown_taken(),
+        ..registers_of(&thread.channel)
+    };
     OK
 }
 

@@ -138,9 +138,10 @@ class Device(OverRegions):
         return Csr(self[reg.csr(self._own(channel))] & 15)
 
     def registers(self, channel: SupportsIndex) -> Registers:
-        """Returns the registers and counts of a channel. After each turn of a program that a DMAGO started, and that
-        `explain_work` explained before the first turn, the first `stored` bytes of its `dst` and `zeros` are done, if
-        nobody else writes what it reads or writes. Raises NoChannel."""
+        """Returns the registers and counts of a channel. If the channel has failed, they are those from before the
+        instruction that failed. After each turn of a program that a DMAGO started, and that `explain_work` explained
+        before the first turn, the first `stored` bytes of its `dst` and `zeros` are done, if nobody else writes what it
+        reads or writes. Raises NoChannel."""
         return registers_of(self._get("registers", STRUCTS["registers"], number(channel, 8, "channel")))
 
     def explain(self, channel: SupportsIndex, most: SupportsIndex = 1000000) -> Explanation:

@@ -158,8 +158,9 @@ impl Device {
 
     /// Takes a turn of a channel: at most `most` steps, until one ends, waits, fails or executes a DMASEV, or before a
     /// store that neither overlaps nor touches the range written so far, or with which it would have all 2^32
-    /// addresses. After the DMASEV of an interrupt it takes one more, but a store apart from the range is left to the
-    /// next turn, here too. It does nothing for a channel that is stopped or faulting, or that the device doesn't have.
+    /// addresses. After the DMASEV of an interrupt it takes one more, but a store is left to the next turn, so that at
+    /// the interrupt no more is copied than before its DMASEV. It does nothing for a channel that is stopped or
+    /// faulting, or that the device doesn't have.
     ///
     /// So each address in the range was written, and lies in a region that isn't read-only, and no byte elsewhere has
     /// changed, whatever the guest's program is.
@@ -190,10 +191,10 @@ impl Device {
         })
     }
 
-    /// Returns the registers and counts of a channel. After each turn of a program that a DMAGO started and
-    /// [`Device::explain_work`] explained before the first turn, `stored` bytes of its destinations and zeros are done,
-    /// of each list the first ones, also if the channel then waits or is faulting, if nobody else writes what the
-    /// program reads or writes.
+    /// Returns the registers and counts of a channel. If the channel has failed, they are those from before the
+    /// instruction that failed. After each turn of a program that a DMAGO started and [`Device::explain_work`]
+    /// explained before the first turn, `stored` bytes of its destinations and zeros are done, of each list the first
+    /// ones, also if the channel then waits or is faulting, if nobody else writes what the program reads or writes.
     ///
     /// Fails with `NoChannel`.
     pub fn registers(&self, channel: u8) -> Result<Registers, Error> {

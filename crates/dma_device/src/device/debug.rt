@@ -3,7 +3,7 @@
 ghost use Rattle.std.specs.Prelude.{◌≡◌, ◌^◌, ◌<◌, Some, length, slice_get, if◌then◌else◌};
 ghost use Rattle.dma_mem.specs.Regions.{pieces_of};
 ghost use Rattle.dma_insn.specs.ControlWord.{field};
-ghost use Rattle.dma_device.specs.Device.{by_manager, by_thread, debugged, go, gone, is_event, is_interrupt, manager_failed, program_at, signalled, with_thread, written};
+ghost use Rattle.dma_device.specs.Device.{by_manager, by_thread, cleared_by, debugged, go, gone, is_event, is_interrupt, manager_failed, program_at, signalled, with_thread, written};
 ghost use Rattle.dma_device.specs.Thread.{failed, killed, started};
 ghost use Rattle.dma_device.specs.declared.thread.Thread.{Thread};
 
@@ -24,13 +24,13 @@ const DMAGO_NONSECURE: u32 = 0xA2;
 impl Device {
     /// Writes the register at this offset for the guest. An offset that has no register ignores writes. A DMAGO reads
     /// its program from the regions.
-    #[tactic(auto, using(crate::proofs::Sound::and_fewer, crate::proofs::Sound::and_known, crate::proofs::Sound::with_events))]
+    #[tactic(auto, using(crate::proofs::Sound::and_known, crate::proofs::Sound::with_events))]
     pub fn write(&mut self, at: u32, value: u32, regions: &[Region<'_>])
         ensures { self.new ≡ written (pieces_of regions.now) at value self.old }
     {
         match at {
             offset::INTEN => self.inten = value & self.all_events(),
-            offset::INTCLR => self.interrupts &= !(value & self.inten),
+            offset::INTCLR => self.clear(value),
             offset::DBGCMD => {
                 if value % 4 == 0 {
                     self.debug(regions);
@@ -40,6 +40,16 @@ impl Device {
             offset::DBGINST1 => self.dbginst1 = value,
             _ => {}
         }
+    }
+
+    // Clears the events and the interrupts that this value has and INTEN makes interrupts.
+    #[tactic(auto, using(crate::proofs::Sound::and_fewer, crate::proofs::Sound::with_events))]
+    fn clear(&mut self, value: u32)
+        ensures { self.new ≡ cleared_by value self.old }
+    {
+        let kept = !(value & self.inten);
+        self.events &= kept;
+        self.interrupts &= kept;
     }
 
     // Executes the debug instruction.

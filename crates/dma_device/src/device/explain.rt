@@ -1,11 +1,12 @@
 //! The channels of a device, and what their programs copy and set to 0.
 
 ghost use Rattle.std.specs.Option.{option_copied};
-ghost use Rattle.std.specs.Prelude.{◌≡◌, ◌-◌, IfErr, IfOk};
+ghost use Rattle.std.specs.Prelude.{◌≡◌, ◌-◌, IfErr, IfOk, slice_get};
 ghost use Rattle.dma_explain.specs.Explains.{bursts_in};
 ghost use Rattle.dma_device.specs.Explaining.{FailsFor, FindsFor, IsLoadedAnd, channel_of};
 
 use crate::device::Device;
+use crate::thread::Thread;
 use dma_chan::channel::Channel;
 use dma_explain::explain::{Explained, Unexplained, explain};
 use std::alloc::Global;
@@ -22,9 +23,19 @@ pub enum ExplainFault {
 }
 
 impl Device {
-    /// Returns channel `n`, or `None` if the device doesn't have it. Its registers and counts say how far its program
-    /// has got (`laws::a_dmago_is_underway`).
-    pub fn channel(&self, n: u8) -> Option<&Channel>
+    /// Returns the thread of channel `n`, or `None` if the device doesn't have it. The registers and counts that it
+    /// shows say how far its program has got (`laws::a_dmago_is_underway`, `a_fault_shows_what_was_before`).
+    pub fn thread(&self, n: u8) -> Option<&Thread>
+        ensures { option_copied result ≡ slice_get self.now.threads n }
+    {
+        let Some(thread) = self.threads.get(usize::from(n)) else {
+            return None;
+        };
+        Some(thread)
+    }
+
+    // Returns channel `n`, or `None` if the device doesn't have it.
+    fn channel(&self, n: u8) -> Option<&Channel>
         ensures { option_copied result ≡ channel_of self.now n }
     {
         let Some(thread) = self.threads.get(usize::from(n)) else {

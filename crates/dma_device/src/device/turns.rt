@@ -1,13 +1,12 @@
 //! Turns of channels.
 
-ghost use Rattle.std.specs.Prelude.{◌≡◌, ◌+◌, ◌^◌, ◌≤◌, [], IsTrue, slice_get};
+ghost use Rattle.std.specs.Prelude.{◌≡◌, ◌+◌, ◌≤◌, [], IsTrue, slice_get};
 ghost use Rattle.dma_mem.specs.Regions.{in_order, pieces_of};
 ghost use Rattle.dma_chan.specs.LentRegions.{AreKept, with_gaps_of};
-ghost use Rattle.dma_device.specs.Turns.{TakesTurn, begins, called, called_if, follows, is_beside, outcome_of, raises, runs_at, setup_of, visible_events, with_flags};
+ghost use Rattle.dma_device.specs.Turns.{TakesTurn, begins, called, called_if, follows, outcome_of, raises, runs_at, runs_without_store, setup_of, visible_events, with_flags};
 
 use crate::device::Device;
 use dma_chan::lent::step_regions;
-use dma_chan::written::joined;
 use dma_insn::insn::Event;
 use dma_mem::events::Events;
 use dma_mem::marks::Marks;
@@ -38,8 +37,9 @@ pub(crate) struct Called {
 impl Device {
     /// Takes a turn of channel `n` over these regions: at most `most` steps, until one ends, waits, fails or sets a
     /// flag, or before one that writes apart from the range written so far. If the last step raised an interrupt, it
-    /// takes one more, unless that writes apart from the range. A channel that is stopped or faulting does nothing. A
-    /// burst that touches an address outside all regions fails, and so does a store that touches a read-only region.
+    /// takes one more, unless that is a store: so no more is copied than before the interrupt. A channel that is
+    /// stopped or faulting does nothing. A burst that touches an address outside all regions fails, and so does a store
+    /// that touches a read-only region.
     pub fn step(&mut self, n: u8, most: u32, regions: &mut [Region<'_>]) -> Turn
         requires { IsTrue (in_order (pieces_of regions.old)) }
         ensures turn { TakesTurn self.old regions.old n most self.new regions.new result }
@@ -50,7 +50,7 @@ impl Device {
         let first = self.call_if(self.begins(n, most), n, most, regions);
         let second = self.call_if(self.follows(n, first), n, 1, regions);
         Turn {
-            written: joined(first.written, second.written),
+            written: first.written,
             taken: u64::from(first.taken) + u64::from(second.taken),
             lines_changed: before.0 != self.irqs() || before.1 != self.irq_abort(),
         }
@@ -72,7 +72,6 @@ impl Device {
             (setup_of self.old regions.old) ≡ outcome_of self.new regions.new result }
         ensures few { result.taken ≤ most }
         ensures kept { AreKept regions.new regions.old }
-        ensures end { result.written.addr + result.written.len ≤ 2 ^ 32 }
     {
         if made {
             self.call(n, most, regions)
@@ -104,7 +103,6 @@ impl Device {
             (setup_of self.old regions.old) ≡ outcome_of self.new regions.new result }
         ensures few { result.taken ≤ most }
         ensures kept { AreKept regions.new regions.old }
-        ensures end { result.written.addr + result.written.len ≤ 2 ^ 32 }
     {
         let config = self.config;
         let mut events = Events::from_bits(self.visible_events());
@@ -142,17 +140,16 @@ impl Device {
         ensures value { result ≡ follows self.now n called }
         ensures runs { IsTrue result → IsTrue (runs_at self.now n) }
     {
-        self.raises(called.signal) && self.is_beside(n, called.written)
+        self.raises(called.signal) && self.runs_without_store(n)
     }
 
-    // Returns whether thread `n` runs, and its next instruction writes in or beside this range, or one of them is
-    // empty.
+    // Returns whether the device has thread `n`, which runs, and whose next instruction is no store.
     #[tactic(auto, using(crate::proofs::Found::found_at, crate::proofs::Found::none_at))]
-    fn is_beside(&self, n: usize, range: Segment) -> bool
-        ensures { result ≡ is_beside range (slice_get self.now.threads n) }
+    fn runs_without_store(&self, n: usize) -> bool
+        ensures { result ≡ runs_without_store (slice_get self.now.threads n) }
     {
         match self.threads.get(n) {
-            Some(thread) => thread.runs() && thread.channel.writes_beside(range),
+            Some(thread) => thread.runs() && !thread.is_before_store(),
             None => false,
         }
     }

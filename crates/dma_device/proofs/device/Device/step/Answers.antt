@@ -1,22 +1,15 @@
-use Rattle.std.proofs.Common.{◌≡◌, ◌≢◌, ◌∙◌, ℕ, ◌+◌, Bool, true, [], refl, subst, sym, arith}
+use Rattle.std.proofs.Common.{◌≡◌, ◌≢◌, ◌∙◌, ℕ, ◌+◌, Bool, [], refl, sym, arith}
 use Rattle.std.specs.Prelude.{◌==◌, not}
 use Rattle.std.proofs.lemmas.Bool.{eq-eqb, ne_eqb}
 use Rattle.dma_insn.specs.ControlWord.{flag}
-use Rattle.dma_chan.specs.{LentRegions.with_gaps_of, Written.adjoins}
 use Rattle.dma_explain.proofs.InOrder.{in_order_kept, marks_kept}
-use Rattle.dma_device.specs.{Device.DeviceValue, Device.irq_abort, Device.irqs, Turns.Outcome, Turns.TakesTurn, Turns.lines_differ, Turns.outcome_of}
-use Rattle.dma_device.proofs.{Writes.second_beside, device.Device.step.Goals.After-from-2}
+use Rattle.dma_device.specs.{Device.DeviceValue, Device.irq_abort, Device.irqs, Turns.TakesTurn, Turns.lines_differ}
+use Rattle.dma_device.proofs.device.Device.step.Goals.{After-from-2}
 use mathlib.Core.Bool.{beq}
 use Rattle.dma_device.proofs.device.Device.step.Goals as goal
 
 pub call_if-second-requires-clause-order : goal.call_if-second-requires-clause-order
 call_if-second-requires-clause-order c = in_order_kept c.args.regions.now c.call_if-first.new.regions c.call_if-first.ensures.kept.places c.requires
-
-pub joined-requires-clause-one : goal.joined-requires-clause-one
-joined-requires-clause-one c =
-    let one = c.call_if-first in
-    subst (λ (o : Outcome). adjoins one.result.written o.called.written ≡ true) (rw c.follows.ensures.value at c.call_if-second.ensures.calls)
-    (second_beside (with_gaps_of one.new.regions []) c.from-n.result (outcome_of one.new.self one.new.regions one.result))
 
 -- whether the lines differ, by the first of them that does
 other_lines : (d e : DeviceValue) (a b : ℕ) → a ≡ irqs d → b ≡ irqs e → a ≢ b → not (a == b) ≡ lines_differ d e
@@ -31,7 +24,7 @@ same_lines d e a b x y p q same left right = rw (left, right, by_flags (irq_abor
 -- a turn has the outcome of its two calls
 turn_is : (c : After-from-2) (changed : Bool) → changed ≡ lines_differ c.args.self.now c.call_if-second.new.self
     → TakesTurn c.args.self.now c.args.regions.now c.args.n c.args.most c.call_if-second.new.self c.call_if-second.new.regions
-    (record { written = c.joined.result; lines_changed = changed; taken = c.from.result + c.from-2.result })
+    (record { written = c.call_if-first.result.written; lines_changed = changed; taken = c.from.result + c.from-2.result })
 turn_is c changed lines =
     let one = c.call_if-first.ensures in
     let two = c.call_if-second.ensures in
@@ -41,7 +34,7 @@ turn_is c changed lines =
     let steps : c.from.result + c.from-2.result ≡ c.call_if-first.result.taken + c.call_if-second.result.taken =
     omega (arith, c.from.ensures, c.from-2.ensures) in
     record {
-      is = simp (first, second, c.joined.ensures.range, lines, steps);
+      is = simp (first, second, lines, steps);
       kept = record {
         places = two.kept.places ∙ one.kept.places;
         read_only = two.kept.read_only ∙ one.kept.read_only;
