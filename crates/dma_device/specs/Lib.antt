@@ -21,6 +21,5 @@ pub mod Explaining
 pub mod Underway
 pub mod Progress
 pub mod Refused
-pub mod AnyRegisters
 pub mod Board
 pub mod inner

@@ -1,8 +1,6 @@
 -- What programs copy and set to 0, and what channels that execute them do.
 pub mod Items
 pub mod Explains
-pub mod Uses
-pub mod Known
 pub mod OnBuses
 pub mod Works
 pub mod Alone
@@ -11,5 +9,4 @@ pub mod CallReads
 pub mod Changes
 pub mod RegionsHave
 pub mod Refusals
-pub mod AnyRegisters
 pub mod inner
