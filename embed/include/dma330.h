@@ -327,8 +327,13 @@ enum dma330_cause {
     DMA330_CAUSE_STORES_TWICE = 13,       /* at DMAEND a byte was stored twice */
     DMA330_CAUSE_STORES_SOURCE = 14,      /* at DMAEND a byte was stored at an address that was read */
     DMA330_CAUSE_NO_END = 15,             /* no DMAEND is among the first `most` instructions */
-    DMA330_CAUSE_STORES_ZEROS = 16        /* a DMASTZ sets bytes to 0, which only dma330_explain_work lists. `steps` and
+    DMA330_CAUSE_STORES_ZEROS = 16,       /* a DMASTZ sets bytes to 0, which only dma330_explain_work lists. `steps` and
                                            * `pc` are 0 */
+    DMA330_CAUSE_UNSET_SAR = 17,          /* for dma330_explain, the instruction uses a register that the program hasn't */
+    DMA330_CAUSE_UNSET_DAR = 18,          /* set. A DMAMOV DAR, DMAADDH or DMAADNH uses the old DAR, too, while bytes are */
+    DMA330_CAUSE_UNSET_CCR = 19,          /* in the buffer: a device, as a chip, compares it with the new one, to find */
+    DMA330_CAUSE_UNSET_LC0 = 20,          /* whether it drops the bytes. Not with `bus` 0. Causes 17 to 21 are since */
+    DMA330_CAUSE_UNSET_LC1 = 21           /* 1.6.0 */
 };
 
 /* The status of a channel, bits 3:0 of CSR (manual, channel status registers). A device of this library has those whose
@@ -492,6 +497,8 @@ DMA330_INLINE const char *dma330_cause_name(uint32_t cause)
         DMA330_NAMED_CAUSE(LOADS_PAST) DMA330_NAMED_CAUSE(STORES_PAST) DMA330_NAMED_CAUSE(STORES_FIXED)
         DMA330_NAMED_CAUSE(DROPS_BYTES) DMA330_NAMED_CAUSE(BYTES_LEFT) DMA330_NAMED_CAUSE(STORES_TWICE)
         DMA330_NAMED_CAUSE(STORES_SOURCE) DMA330_NAMED_CAUSE(NO_END) DMA330_NAMED_CAUSE(STORES_ZEROS)
+        DMA330_NAMED_CAUSE(UNSET_SAR) DMA330_NAMED_CAUSE(UNSET_DAR) DMA330_NAMED_CAUSE(UNSET_CCR)
+        DMA330_NAMED_CAUSE(UNSET_LC0) DMA330_NAMED_CAUSE(UNSET_LC1)
     default: return "?";
     }
 }
@@ -817,7 +824,7 @@ int32_t dma330_device_step_rows(dma330_device *device, uint8_t channel, uint32_t
 /* Explains the program that a DMAGO loaded into a channel, as dma330_explain does on the device's bus: from its first
  * instruction on, wherever the channel is in it, but with the registers that the channel has now. A DMAGO keeps the
  * registers, so before the channel's first turn they are those with which the program begins. Later the answer is the
- * same if the program sets each register before it uses it. A channel has a program from the DMAGO until the DMAEND or a
+ * same if dma330_explain explains the program, since that holds for any registers. A channel has a program from the DMAGO until the DMAEND or a
  * DMAKILL, also while it waits or is faulting. After a restore nothing is promised of the channel's turns, since a save
  * may have any registers. The explanation doesn't depend on the number of events: a device fails at an instruction with
  * an event that it doesn't have. Codes: NO_CHANNEL, NO_PROGRAM, NO_MEMORY, UNEXPLAINED, BUFFER_TOO_SMALL. */
@@ -910,13 +917,14 @@ int32_t dma330_version(char *out, size_t room, size_t *len) DMA330_NO_NULLS;
 int32_t dma330_run_program(const uint8_t *program, size_t len, uint8_t *memory, size_t size, uint32_t limit,
                            dma330_run_end *end) DMA330_NO_NULLS;
 
-/* Explains a program that begins with SAR, DAR, CCR, LC0 and LC1 at 0, as in a channel of this library (a device's CCR
- * after a reset, 0x00800200, has other protection bits, and copies alike): writes which bytes it reads (`src`) and
+/* Explains a program, whatever SAR, DAR, CCR, LC0 and LC1 are when it begins: writes which bytes it reads (`src`) and
  * where it stores them (`dst`), each list in the order of the run, the events that it waits for and signals, and the
- * numbers of all. Byte number p that it reads is byte number p that it stores; no byte is stored twice, or where one is
+ * numbers of all. A register isn't known until the program sets it, since a device keeps its registers over a DMAGO, so
+ * another program may have left anything there. An instruction that uses a register before that is refused (causes
+ * UNSET_SAR to UNSET_LC1). Byte number p that it reads is byte number p that it stores; no byte is stored twice, or where one is
  * read. `bus` is 0 for a channel of this library, or 32, 64 or 128 for one of a device. The call runs the program once,
  * without a memory, for at most `most` instructions: their order and addresses are the same in each memory. So a
- * channel that runs the program from these registers copies these bytes, if the regions have all these addresses, none
+ * channel that runs the program copies these bytes, if the regions have all these addresses, none
  * that it writes is read-only, no mark lies there, and nobody else writes there meanwhile. If UNEXPLAINED is returned,
  * the program isn't such a copy in at most `most` instructions: the explanation has the cause, the offset, and how many
  * instructions come before it. For BUFFER_TOO_SMALL the explanation is that of DMA330_OK, so the numbers are the room

@@ -85,9 +85,9 @@ static void change(uint8_t *bytes, uint32_t len, uint32_t *seed)
         change_byte(&bytes[any(seed, len)], seed);
 }
 
-/* How many changed programs are explained, how many have each cause, how many set bytes to 0, and how many have too many
- * ranges or bytes to be run. */
-static unsigned long causes[DMA330_CAUSE_NO_END + 1], with_zeros, too_large;
+/* How many changed programs are explained, how many have each cause, how many set bytes to 0, how many use a register
+ * before they set it, and how many have too many ranges or bytes to be run. */
+static unsigned long causes[DMA330_CAUSE_NO_END + 1], with_zeros, unset, too_large;
 
 /* A program that isn't explained has a cause. The original's memory is lent. */
 static void check_cause(const program *p, uint32_t bus, const explained *original, uint32_t n)
@@ -108,9 +108,11 @@ static void check_cause(const program *p, uint32_t bus, const explained *origina
 static void check_changed(const program *p, uint32_t bus, const explained *original, uint32_t n)
 {
     uint32_t place, most = 1 + n % 300;
+    bool is_unset;
 
     explain(&e, p->bytes, p->len, bus, MOST_STEPS);
-    expect(explain_without_zeros(&e, p->bytes, p->len, bus, MOST_STEPS), "a changed program", n);
+    expect(explain_for_any(&e, p->bytes, p->len, bus, MOST_STEPS, &is_unset), "a changed program", n);
+    unset += is_unset;
     if (e.code != DMA330_OK && e.code != DMA330_BUFFER_TOO_SMALL) {
         check_cause(p, bus, original, n);
         return;
@@ -155,5 +157,6 @@ void print_causes(void)
         if (causes[n] > 0)
             printf("%8lu %s\n", causes[n], n == 0 ? "explained" : dma330_cause_name(n));
     printf("%8lu explained with zeros\n", with_zeros);
+    printf("%8lu use a register before they set it\n", unset);
     printf("%8lu explained, but not run: too many ranges or bytes\n", too_large);
 }

@@ -60,19 +60,41 @@ static void keep(explained *e, int32_t code, const dma330_work *x)
 
 static const dma330_work no_work = {0, 0, 0, 0, 0, 0, 0, 0, 0, 0};
 
-void explain(explained *e, const uint8_t *bytes, size_t len, uint32_t bus, uint32_t most)
+static void explain_from(explained *e, const dma330_registers *start, const uint8_t *bytes, size_t len, uint32_t bus,
+                         uint32_t most)
 {
-    static const dma330_registers start = {0, 0, 0, 0, 0, 0, 0, 0, 0};
     dma330_work x = no_work;
     int32_t code;
 
     allocations_left = ALLOCATIONS;
-    code = dma330_explain_work(bytes, len, bus, &start, most, e->is.src, MOST_ITEMS, e->is.dst, MOST_ITEMS, e->is.zeros,
+    code = dma330_explain_work(bytes, len, bus, start, most, e->is.src, MOST_ITEMS, e->is.dst, MOST_ITEMS, e->is.zeros,
                                MOST_ITEMS, e->is.moments, MOST_ITEMS, &x);
     keep(e, code, &x);
 }
 
-const char *explain_without_zeros(const explained *e, const uint8_t *bytes, size_t len, uint32_t bus, uint32_t most)
+void explain(explained *e, const uint8_t *bytes, size_t len, uint32_t bus, uint32_t most)
+{
+    static const dma330_registers zeros = {0, 0, 0, 0, 0, 0, 0, 0, 0};
+
+    explain_from(e, &zeros, bytes, len, bus, most);
+}
+
+/* Returns whether dma330_explain_work says the same from other registers, which differ from 0 in each byte lane. */
+static bool is_same_from_others(const explained *e, const uint8_t *bytes, size_t len, uint32_t bus, uint32_t most)
+{
+    static const dma330_registers starts[] = {{9, 0x8000100F, 0x80003001, 0x00014004, 255, 1, 0, 9, 9},
+                                              {0, 0xFFFFFFFF, 0xFFFFFFFE, 0x00814232, 3, 200, 1, 0, 0}};
+    static explained other;
+
+    for (size_t n = 0; n < sizeof starts / sizeof starts[0]; n++) {
+        explain_from(&other, &starts[n], bytes, len, bus, most);
+        if (!is_same(&other, e))
+            return false;
+    }
+    return true;
+}
+
+const char *explain_for_any(const explained *e, const uint8_t *bytes, size_t len, uint32_t bus, uint32_t most, bool *is_unset)
 {
     static explained other;
     static dma330_happening happenings[MOST_ITEMS];
@@ -83,6 +105,11 @@ const char *explain_without_zeros(const explained *e, const uint8_t *bytes, size
     allocations_left = ALLOCATIONS;
     code = dma330_explain(bytes, len, bus, most, other.is.src, MOST_ITEMS, other.is.dst, MOST_ITEMS, happenings, MOST_ITEMS,
                           &x);
+    *is_unset = x.cause >= DMA330_CAUSE_UNSET_SAR;
+    if (*is_unset)
+        return code == DMA330_UNEXPLAINED && x.steps <= e->is.steps && x.size == 0 ? NULL : "an unset register has a copy";
+    if (!is_same_from_others(e, bytes, len, bus, most))
+        return "the program isn't the same from all registers";
     if (e->is.zeros_len > 0)
         return code == DMA330_UNEXPLAINED && x.cause == DMA330_CAUSE_STORES_ZEROS && x.pc == 0 && x.steps == 0 &&
                x.size == 0 ? NULL : "zeros aren't refused";

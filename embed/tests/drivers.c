@@ -20,14 +20,16 @@ static const uint32_t buses[] = {0, 32, 64, 128};
 
 /* ---- programs that are meant ---- */
 
-/* The program is explained on this bus as it is meant, and runs so, whatever follows it. Only one whose beats are too
+/* The program is explained on this bus as it is meant, for any registers, and runs so, whatever follows it. Only one whose beats are too
  * wide isn't explained. */
 static void check_on_bus(uint32_t bus, const char *what, uint32_t n)
 {
     uint32_t place, most = 1 + (n * 7 + bus) % 5000, len = p.len + n % 9;
+    bool is_unset;
 
     explain(&e, p.bytes, len, bus, p.means.steps);
-    expect(explain_without_zeros(&e, p.bytes, len, bus, p.means.steps), what, n);
+    expect(explain_for_any(&e, p.bytes, len, bus, p.means.steps, &is_unset), what, n);
+    check(!is_unset, what, n);
     if (bus != 0 && 8 * p.widest > bus) {
         check(e.code == DMA330_UNEXPLAINED && e.cause == DMA330_CAUSE_OPERAND_INVALID && e.is.src_len == 0, what, n);
         return;

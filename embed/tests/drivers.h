@@ -130,8 +130,10 @@ typedef struct explained {
 /* Explains a program on a bus of this many bits, 0 for a channel. */
 void explain(explained *e, const uint8_t *bytes, size_t len, uint32_t bus, uint32_t most);
 
-/* Returns NULL if dma330_explain says the same of this program, or refuses it for its zeros; or what is otherwise. */
-const char *explain_without_zeros(const explained *e, const uint8_t *bytes, size_t len, uint32_t bus, uint32_t most);
+/* Returns NULL if dma330_explain says the same of this program, or refuses it for its zeros, and dma330_explain_work says
+ * the same from other registers; or if dma330_explain refuses it since it uses a register before it sets it, as *is_unset
+ * then says. Else returns what is otherwise. */
+const char *explain_for_any(const explained *e, const uint8_t *bytes, size_t len, uint32_t bus, uint32_t most, bool *is_unset);
 
 /* Returns whether a program is explained, as its author means it. */
 bool is_meant(const explained *e, const meaning *means);

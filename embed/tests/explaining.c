@@ -59,6 +59,13 @@ static int32_t explain(uint32_t bus, uint32_t most)
     return explain_in(bus, most, ROOM, ROOM, ROOM);
 }
 
+static int32_t explain_channel(dma330_device *device, uint8_t channel)
+{
+    forget();
+    allocations_left = MANY;
+    return dma330_device_explain(device, channel, 100, out.src, 1, out.dst, 1, out.happenings, 1, &out.explanation);
+}
+
 static bool has_counts(size_t src, size_t dst, size_t happenings, uint64_t size, uint32_t steps)
 {
     const dma330_explanation *e = &out.explanation;
@@ -109,13 +116,13 @@ static const struct {
     {"a beat wider than 32 bits", MOVE BEAT_8 "DMALD\nDMAST\nDMAEND\n", 32, DMA330_CAUSE_OPERAND_INVALID, 12, 2},
     {"a beat wider than 64 bits", MOVE BEAT_16 "DMALD\nDMAST\nDMAEND\n", 64, DMA330_CAUSE_OPERAND_INVALID, 12, 2},
     {"a reserved size", "DMAMOV CCR 0x0001400B\nDMAEND\n", 0, DMA330_CAUSE_OPERAND_INVALID, 0, 0},
-    {"a full buffer", "DMAMOV CCR 0x003E40F9\nDMALD\nDMALD\nDMAEND\n", 0, DMA330_CAUSE_MFIFO_ERR, 7, 2},
-    {"an empty buffer", "DMANOP\nDMAST\nDMAEND\n", 0, DMA330_CAUSE_ST_DATA_UNAVAILABLE, 1, 1},
+    {"a full buffer", MOVE "DMAMOV CCR 0x003E40F9\nDMALD\nDMALD\nDMAEND\n", 0, DMA330_CAUSE_MFIFO_ERR, 19, 4},
+    {"an empty buffer", MOVE BEAT_4 "DMAST\nDMAEND\n", 0, DMA330_CAUSE_ST_DATA_UNAVAILABLE, 18, 3},
     {"no DMAEND", "DMANOP\nDMANOP\n", 0, DMA330_CAUSE_INSTR_FETCH_ERR, 2, 2},
     {"a jump to before the start", "DMALP 0 2\nDMALPEND 0 5\nDMAEND\n", 0, DMA330_CAUSE_INSTR_FETCH_ERR, 2, 1},
     {"a load past the last address", "DMAMOV SAR 0xFFFFFFFE\n" BEAT_4 "DMALD\nDMAEND\n", 0, DMA330_CAUSE_LOADS_PAST, 12, 2},
-    {"a store past the last address", "DMAMOV DAR 0xFFFFFFFE\n" BEAT_4 "DMALD\nDMAST\nDMAEND\n", 0, DMA330_CAUSE_STORES_PAST,
-     13, 3},
+    {"a store past the last address", MOVE "DMAMOV DAR 0xFFFFFFFE\n" BEAT_4 "DMALD\nDMAST\nDMAEND\n", 0,
+     DMA330_CAUSE_STORES_PAST, 25, 5},
     {"a store that stays", MOVE "DMAMOV CCR 0x00010005\nDMALD\nDMAST\nDMAEND\n", 0, DMA330_CAUSE_STORES_FIXED, 19, 4},
     {"a DMAMOV DAR to other lanes", MOVE BEAT_4 "DMALD\nDMAMOV DAR 0x00003002\nDMAST\nDMAEND\n", 32,
      DMA330_CAUSE_DROPS_BYTES, 19, 4},
@@ -126,6 +133,13 @@ static const struct {
      DMA330_CAUSE_STORES_TWICE, 28, 8},
     {"a byte stored where one is read", MOVE "DMAMOV DAR 0x00001003\n" BEAT_4 "DMALD\nDMAST\nDMAEND\n", 0,
      DMA330_CAUSE_STORES_SOURCE, 26, 6},
+    {"a load without SAR", "DMAMOV DAR 0x00002000\n" BEAT_4 "DMALD\nDMAST\nDMAEND\n", 0, DMA330_CAUSE_UNSET_SAR, 12, 2},
+    {"a load without CCR", MOVE "DMALD\nDMAST\nDMAEND\n", 0, DMA330_CAUSE_UNSET_CCR, 12, 2},
+    {"a store without DAR", "DMAMOV SAR 0x00001000\n" BEAT_4 "DMALD\nDMAST\nDMAEND\n", 0, DMA330_CAUSE_UNSET_DAR, 13, 3},
+    {"a loop without LC0", "DMALP 1 2\nDMANOP\nDMALPEND 0 1\nDMAEND\n", 0, DMA330_CAUSE_UNSET_LC0, 3, 2},
+    {"a loop without LC1", "DMALP 0 2\nDMANOP\nDMALPEND 1 1\nDMAEND\n", 0, DMA330_CAUSE_UNSET_LC1, 3, 2},
+    {"a drop by an old DAR", "DMAMOV SAR 0x00001000\n" BEAT_4 "DMALD\nDMAMOV DAR 0x00002000\nDMAST\nDMAEND\n", 32,
+     DMA330_CAUSE_UNSET_DAR, 13, 3},
     {"an end too late", "DMALP 0 256\nDMANOP\nDMALPEND 0 1\nDMAEND\n", 0, DMA330_CAUSE_NO_END, 3, 100}
 };
 
@@ -200,20 +214,21 @@ static void explains_moves_of_dar(void)
 static void explains_a_devices_instructions(void)
 {
     static const uint8_t zeros[] = {0x18, 0x0C, 0x00}, forever[] = {0x18, 0x28, 0x00};
-    static const uint8_t moves[] = {0xBC, 1, 0x05, 0x40, 0x01, 0x00, 0x04, 0x56, 0x02, 0x00, 0x08, 0x00};
+    static const uint8_t moves[] = {0xBC, 0, 0, 0x10, 0, 0, 0xBC, 2, 0, 0x20, 0, 0, 0xBC, 1, 0x05, 0x40, 0x01, 0x00, 0x04, 0x56,
+                                    0x02, 0x00, 0x08, 0x00};
     static const uint8_t rows[] = {
         0xBC, 1, 0x05, 0x40, 0x01, 0x00, 0xBC, 0, 0, 0x10, 0, 0, 0xBC, 2, 0, 0x20, 0, 0, 0x20, 1, 0x04, 0x08, 0x54, 0x0C, 0x00,
         0x5E, 0xF8, 0xFF, 0x38, 8, 0x00
     };
 
     memcpy(tested.bytes, zeros, tested.len = sizeof zeros);
-    check(explain(32, 9) == DMA330_UNEXPLAINED && has_cause(DMA330_CAUSE_STORES_FIXED, 1, 1), "a DMASTZ", 32);
+    check(explain(32, 9) == DMA330_UNEXPLAINED && has_cause(DMA330_CAUSE_UNSET_DAR, 1, 1), "a DMASTZ", 32);
     check(explain(0, 9) == DMA330_UNEXPLAINED && has_cause(DMA330_CAUSE_UNDEF_INSTR, 1, 1), "on a channel", 0);
     memcpy(tested.bytes, forever, tested.len = sizeof forever);
     check(explain(32, 9) == DMA330_UNEXPLAINED && has_cause(DMA330_CAUSE_NO_END, 1, 9), "a loop for ever", 32);
     memcpy(tested.bytes, moves, tested.len = sizeof moves);
-    check(explain(32, 9) == DMA330_UNEXPLAINED && has_cause(DMA330_CAUSE_DROPS_BYTES, 7, 2), "an addition to DAR", 32);
-    check(explain(0, 9) == DMA330_UNEXPLAINED && has_cause(DMA330_CAUSE_UNDEF_INSTR, 7, 2), "on a channel", 0);
+    check(explain(32, 9) == DMA330_UNEXPLAINED && has_cause(DMA330_CAUSE_DROPS_BYTES, 19, 4), "an addition to DAR", 32);
+    check(explain(0, 9) == DMA330_UNEXPLAINED && has_cause(DMA330_CAUSE_UNDEF_INSTR, 19, 4), "on a channel", 0);
     memcpy(tested.bytes, rows, tested.len = sizeof rows);
     check(explain(32, 99) == DMA330_OK && is_explained(2, 2, 0, 8, 15) && reads(0, 0x1000, 4, 1) && reads(1, 0x1010, 4, 1) &&
               writes(0, 0x2000, 4) && writes(1, 0x1FFC, 4), "two rows", 0);
@@ -242,6 +257,41 @@ static void explains_events(void)
           "its events", 0);
     assemble("DMAEND\n");
     check(explain(128, 1) == DMA330_OK && is_explained(0, 0, 0, 0, 1) && are_lists_unwritten(), "a copy of nothing", 0);
+}
+
+/* On a bus of 64 bits this program copies only if DAR is on the lanes of 0x80002000: a device keeps DAR over a DMAGO, and
+ * its channel drops the loaded bytes at the DMAMOV DAR if another program has left other lanes there. So no explanation for
+ * any registers finds the copy, while one from the channel's own registers does. */
+static void explains_a_stale_dar(void)
+{
+    static machine m;
+    const uint32_t from = NEXT, to = NEXT + 0x1000, other = NEXT + 0x1804;
+    uint32_t at;
+
+    set_up(&m, plain(1, 16, false));
+    at = put_move(&m, put_move(&m, LOW, TO_SAR, from), TO_CCR, 0x000D4035);
+    at = put(&m, put_move(&m, put(&m, at, DMALD), TO_DAR, to), DMAST);
+    put(&m, at, DMAEND);
+    at = put_move(&m, put_move(&m, put_move(&m, LOW + 0x100, TO_SAR, from), TO_DAR, other - 4), TO_CCR, 0x00014005);
+    put(&m, put(&m, put(&m, at, DMALD), DMAST), DMAEND);
+    memcpy(tested.bytes, byte_at(m.bytes, LOW), tested.len = 21);
+    check(explain(128, 9) == DMA330_UNEXPLAINED && has_cause(DMA330_CAUSE_UNSET_DAR, 13, 3), "a stale DAR", 128);
+    check(explain(0, 9) == DMA330_OK && is_explained(1, 1, 0, 16, 6), "no lanes", 0);
+    want_ram(&m);
+    memcpy(byte_at(m.wanted, to), byte_at(m.wanted, from), 16);
+    start(&m, 0, LOW);
+    check(explain_channel(&m.device, 0) == DMA330_OK && is_explained(1, 1, 0, 16, 6), "after a reset", 0);
+    allocations_left = 0;
+    check(!run(&m, 0) && is_ram_wanted(&m), "after a reset it copies", 0);
+    memcpy(byte_at(m.wanted, other - 4), byte_at(m.wanted, from), 4);
+    start(&m, 0, LOW + 0x100);
+    check(!run(&m, 0) && is_ram_wanted(&m) && get(&m, DAR) == other, "another program", 0);
+    start(&m, 0, LOW);
+    check(explain_channel(&m.device, 0) == DMA330_UNEXPLAINED && has_cause(DMA330_CAUSE_DROPS_BYTES, 13, 3), "a stale DAR", 0);
+    allocations_left = 0;
+    run(&m, 0);
+    check((get(&m, CSR) & 15) == DMA330_CSR_FAULTING && get(&m, FTR) == 1u << 13 && is_ram_wanted(&m), "it fails", 0);
+    tear_down(&m);
 }
 
 /* ---- codes ---- */
@@ -409,13 +459,6 @@ static void plans_as_a_channel_loads(void)
 
 /* ---- a device's channel ---- */
 
-static int32_t explain_channel(dma330_device *device, uint8_t channel)
-{
-    forget();
-    allocations_left = MANY;
-    return dma330_device_explain(device, channel, 100, out.src, 1, out.dst, 1, out.happenings, 1, &out.explanation);
-}
-
 static void explains_on_a_device(void)
 {
     static machine m;
@@ -450,6 +493,7 @@ int main(void)
     explains_a_devices_instructions();
     explains_repeated_sources();
     explains_events();
+    explains_a_stale_dar();
     refuses_other_buses();
     needs_room();
     needs_memory();

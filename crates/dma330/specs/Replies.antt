@@ -1,6 +1,6 @@
 -- What a request prints for its input (profile).
 use Rattle.std.specs.Prelude.{◌≡◌, ℕ, Bool, true, false, ◌==◌, if◌then◌else◌, List, [], ◌++◌, Option, Some, None, Ok, Err, is_ok}
-use Rattle.dma_chan.specs.declared.bus.Bus.{Bus}
+use Rattle.dma_explain.specs.declared.explain.known.Given.{Given}
 use Rattle.dma_mem.specs.declared.regions.Region.{Region}
 use Rattle.dma_io.specs.{Answer.Prints, Answer.under_name, Answer.with_note, Command.printed_text, Command.text_of, Printing.program_lines}
 use Rattle.dma_manual.specs.Listing.{is_whole, listed, rest_text, stop_text}
@@ -28,8 +28,8 @@ Assembles to_file text p =
     × (p.file ≡ (if to_file then program_of text else [])) × (p.succeeds ≡ is_ok (read_text text))
 
 -- `explain` prints what the program copies and sets to 0, or on standard error why nothing explains it, with warnings.
-abbrev pub Explains : Bus → ℕ → List ℕ → Prints → Type 0
-Explains bus most program p = Appends bus program most p.succeeds [] [] p.out p.err × (p.file ≡ [])
+abbrev pub Explains : Given → ℕ → List ℕ → Prints → Type 0
+Explains given most program p = Appends given program most p.succeeds [] [] p.out p.err × (p.file ≡ [])
 
 -- `trace` prints the program's trace over RAM, and on standard error what ends it early, and writes its waveform.
 -- If no RAM is given, it is zeros at the ranges that `explain` finds; if it finds none, standard error has why.
@@ -48,7 +48,7 @@ Reasons script p =
 abbrev pub Replies : Request → List Region → List ℕ → Prints → Type 0
 Replies (Dis at) ram input = Lists at input
 Replies (Asm to_file) ram input = Assembles to_file input
-Replies (Explain bus most) ram input = Explains bus most input
+Replies (Explain given most) ram input = Explains given most input
 Replies (Trace options) ram input = Traces options ram input
 Replies (Race seed) ram input = Races seed input
 Replies (RaceSeeds seeds) ram input = RacesSeeds seeds input
@@ -58,7 +58,7 @@ Replies Why ram input = Reasons input
 abbrev pub takes_program : Request → Bool
 takes_program (Dis at) = true
 takes_program (Asm to_file) = false
-takes_program (Explain bus most) = true
+takes_program (Explain given most) = true
 takes_program (Trace options) = true
 takes_program (Race seed) = false
 takes_program (RaceSeeds seeds) = false

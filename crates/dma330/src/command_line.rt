@@ -1,9 +1,10 @@
 //! What the words of a command line ask for.
 use crate::subcommands::{Subcommand, dma330};
-use crate::values::{RamRange, number, ram_range, range, seed_range};
+use crate::values::{RamRange, given, number, ram_range, range, seed_range};
 use clap::error::ErrorKind;
 use clap::{ArgMatches, Command, Error};
 use dma_chan::bus::{Bus, BusWidth};
+use dma_explain::explain::known::Given;
 use dma_io::hexadecimal::Notation;
 use dma_manual::pasted::Spelling;
 use dma_mem::segment::Segment;
@@ -17,7 +18,7 @@ use std::alloc::{AllocError, AllocFailed, Global};
 pub enum Request {
     Dis { at: u32 },
     Asm { to_file: bool },
-    Explain { bus: Bus, most: u32 },
+    Explain { given: Given, most: u32 },
     Trace(TraceOptions),
     Race { seed: u64 },
     RaceSeeds(SeedRange),
@@ -144,6 +145,22 @@ fn bus_at(matches: &ArgMatches<'_>) -> Bus {
     }
 }
 
+/// Reads the options of `explain`. Of the registers that aren't given none is known.
+fn explain_of<'a>(matches: &ArgMatches<'a>) -> Result<Request, Wrong<'a>> {
+    let most = number_at(matches, "most", USUAL_MOST)?;
+    let none = Given::none(bus_at(matches));
+    let id = "registers";
+    let Some(word) = matches.get_str(id) else {
+        return Ok(Request::Explain { given: none, most });
+    };
+    let wanted =
+        "not NAME=VALUE,.. of SAR, DAR, a CCR that the bus accepts, LC0 and LC1 (up to 255)";
+    match given(none, word) {
+        Some(given) => Ok(Request::Explain { given, most }),
+        None => Err(Wrong::Value { id, word, wanted }),
+    }
+}
+
 /// Reads the options of `trace`.
 fn trace_of<'a>(alloc: Global, matches: &ArgMatches<'a>) -> Result<Request, Wrong<'a>> {
     let count = if matches.get_flag("quiet") {
@@ -192,10 +209,7 @@ fn request_of<'a>(
         Subcommand::Asm => Ok(Request::Asm {
             to_file: matches.contains_id("output"),
         }),
-        Subcommand::Explain => Ok(Request::Explain {
-            bus: bus_at(matches),
-            most: number_at(matches, "most", USUAL_MOST)?,
-        }),
+        Subcommand::Explain => explain_of(matches),
         Subcommand::Trace => trace_of(alloc, matches),
         Subcommand::Race => race_of(matches),
         Subcommand::Why => Ok(Request::Why),

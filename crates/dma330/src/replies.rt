@@ -5,7 +5,7 @@ ghost use Rattle.dma_io.specs.Answer.{prints_of};
 ghost use Rattle.dma330.specs.Replies.{Answers, Assembles, Explains, FormReplies, InputReplies, Lists, ProgramReplies, RawReplies, Reasons, Replies, TextReplies, Traces, takes_program};
 
 use crate::command_line::Request;
-use dma_chan::bus::Bus;
+use dma_explain::explain::known::Given;
 use dma_io::answer::Answer;
 use dma_io::printing::ProgramLines;
 use dma_io::progress::Progress;
@@ -53,15 +53,15 @@ fn assembly(alloc: Global, text: &[u8], to_file: bool) -> Result<Answer, AllocEr
 fn explanation<P: Progress>(
     alloc: Global,
     program: &[u8],
-    bus: Bus,
+    given: Given,
     most: u32,
     progress: &mut P,
 ) -> Result<Answer, AllocError>
-    ensures { IfOk result (λ answer. Explains bus most program.now (prints_of answer)) }
+    ensures { IfOk result (λ answer. Explains given most program.now (prints_of answer)) }
 {
     let mut out = Vec::new(alloc);
     let mut err = Vec::new(alloc);
-    let succeeds = explain(alloc, program, bus, most, &mut out, &mut err, progress)?;
+    let succeeds = explain(alloc, program, given, most, &mut out, &mut err, progress)?;
     Ok(Answer::new(out, err, Vec::new(alloc), succeeds))
 }
 
@@ -115,7 +115,7 @@ fn reply<P: Progress>(
     match request {
         Request::Dis { at } => listing(alloc, input, *at),
         Request::Asm { to_file } => assembly(alloc, input, *to_file),
-        Request::Explain { bus, most } => explanation(alloc, input, *bus, *most, progress),
+        Request::Explain { given, most } => explanation(alloc, input, *given, *most, progress),
         Request::Trace(options) => tracing(alloc, input, options, ram, progress),
         Request::Race { seed } => race_by_seed(alloc, input, *seed),
         Request::RaceSeeds(seeds) => race_by_seeds(alloc, input, *seeds, progress),

@@ -154,6 +154,12 @@ static EXPLAIN: Usage = Usage {
             rule: Rule::None,
             what: "Give up after N instructions [default: 10000000]",
         },
+        Argument {
+            name: "registers",
+            form: Form::Value("NAME=VALUE,.."),
+            rule: Rule::None,
+            what: "SAR, DAR, CCR, LC0 or LC1 at the start [default: none is known]",
+        },
         PROGRAM,
     ],
 };

@@ -32,6 +32,7 @@ pub mod Frame
 pub mod StepsAlike
 pub mod TurnsAlike
 pub mod Explaining
+pub mod AnyRegisters
 pub mod Underway
 pub mod Exactly
 pub mod Shown

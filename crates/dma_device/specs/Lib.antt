@@ -21,5 +21,6 @@ pub mod Explaining
 pub mod Underway
 pub mod Progress
 pub mod Refused
+pub mod AnyRegisters
 pub mod Board
 pub mod inner

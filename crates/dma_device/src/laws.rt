@@ -1,5 +1,6 @@
 //! Laws of devices. Each law is the postcondition of a function that does nothing.
 
+ghost use Rattle.dma_device.specs.AnyRegisters.{AnyDmago, AnyDmagoRefused};
 ghost use Rattle.dma_device.specs.Board.{ABoardCopies, BoardRunsCopy, BoardSpares, BoardStaysIn};
 ghost use Rattle.dma_device.specs.Copies.{DmagoCopies, DmagoInterrupts, DmagoInterruptsEach, DmagoInterruptsExactly, DmagoNeverFails, DmagoSignalsExactly};
 ghost use Rattle.dma_device.specs.Dmago.{ImageHasBytes};
@@ -28,6 +29,15 @@ pub fn memory_has_bytes()
 /// channels do meanwhile to other bytes and registers. It is done once the channel's CSR reads as stopped.
 pub fn a_dmago_copies()
     ensures { DmagoCopies }
+{}
+
+/// A DMAGO keeps SAR, DAR, CCR and the loop counters. What [`explain_from`](dma_explain::explain::explain_from) finds on
+/// the device's bus when no register is known explains the program from the registers of each channel, whatever another
+/// program has left there: so all laws of a DMAGO are about it. A program that is then refused for a fault is refused
+/// for it from these registers.
+pub fn a_dmago_from_any_registers()
+    ensures explained { AnyDmago }
+    ensures refused { AnyDmagoRefused }
 {}
 
 /// Once a line that was low is high after a turn of such a channel, at least as many bytes are copied and set to 0 as

@@ -15,10 +15,13 @@ pub mod Items
 pub mod TracerSteps
 pub mod TracerBursts
 pub mod Explaining
+pub mod Knowing
 pub mod ItemsInTurn
 pub mod RoundSizes
 pub mod Rounds
+pub mod OtherCounter
 pub mod Refusals
+pub mod AnyRegisters
 pub mod RegionsHave
 pub mod Rows
 pub mod InOrder

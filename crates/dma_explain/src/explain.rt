@@ -1,16 +1,20 @@
 //! What a program copies and what it sets to 0, found by one run without memory.
 
 ghost use Rattle.std.specs.Prelude.{◌≡◌, ◌≢◌, ◌-◌, ◌<◌, ◌↔◌, IfErr, IfOk, IsErrAnd, length};
+ghost use Rattle.dma_chan.specs.declared.exec.Registers.{Registers};
 ghost use Rattle.dma_insn.specs.AssemblyText.{most_program_bytes};
 ghost use Rattle.dma_insn.specs.declared.chip.ChipInsn.TheVariants.{End};
 ghost use Rattle.dma_mem.specs.Places.{places};
 ghost use Rattle.dma_explain.specs.Explains.{Finds, HasAddress, Refuses, bursts_in, unrolled, written_in};
+ghost use Rattle.dma_explain.specs.Known.{FindsFrom, MayBegin, RefusesFrom};
 ghost use Rattle.dma_explain.specs.inner.Tracing.{IsCopied, IsTracer, Stops, trace_of};
 
+pub mod known;
 mod ranges;
 mod rounds;
 pub mod tracer;
 
+use crate::explain::known::{Given, Register};
 use crate::explain::ranges::overlap;
 use crate::explain::tracer::Tracer;
 use dma_chan::exec::Registers;
@@ -107,6 +111,8 @@ pub enum Cause {
     StoresSource,
     /// No DMAEND is among the first `most` instructions that are executed.
     NoEnd,
+    /// The instruction uses a register that isn't known: none was given, and the program hasn't set it.
+    UsesUnknown(Register),
     /// Memory ran out.
     NoMemory,
 }
@@ -196,6 +202,26 @@ pub fn explain(
     ensures long { IsErrAnd result (λ u. u.cause ≡ Cause.TooLong)
         ↔ most_program_bytes < length program.now }
 {
+    explain_from(alloc, Given::all(start), program, most)
+}
+
+/// Explains a program as [`explain`], if only some of the registers are known with which it begins. What it finds, and
+/// why it refuses a program, holds whatever the others are: it refuses an instruction that uses one of them before the
+/// program has set it.
+pub fn explain_from(
+    alloc: Global,
+    given: Given,
+    program: &[u8],
+    most: u32,
+) -> Result<Explained, Unexplained>
+    ensures ok { IfOk result (λ x. FindsFrom given program.now most x) }
+    ensures bursts { IfOk result (λ x. (start : Registers) → MayBegin given start
+        → x.bursts ≡ bursts_in start program.now (x.steps - 1)) }
+    ensures err { IfErr result (λ u. u.cause ≢ Cause.NoMemory → u.cause ≢ Cause.TooLong
+        → RefusesFrom given program.now most u) }
+    ensures long { IsErrAnd result (λ u. u.cause ≡ Cause.TooLong)
+        ↔ most_program_bytes < length program.now }
+{
     if program.len() > MAX_PROGRAM_BYTES {
         return Err(Unexplained {
             cause: Cause::TooLong,
@@ -205,7 +231,8 @@ pub fn explain(
             stored: 0,
         });
     }
-    let mut tracer = Tracer::new(alloc, start);
+    let mut tracer = Tracer::new(alloc, given.registers);
+    let mut known = given.known;
     let mut steps = 0;
     while steps < most {
         let pc = tracer.registers.pc;
@@ -233,12 +260,17 @@ pub fn explain(
                 }),
             };
         }
-        match tracer.run(program, next, most - steps) {
+        if let Some(register) = known.unknown(next.insn(), tracer.registers.bus, tracer.held) {
+            let cause = Cause::UsesUnknown(register);
+            return Err(Unexplained { cause, ..here });
+        }
+        match tracer.run(known, program, next, most - steps) {
             Ok(count) => steps += count,
             Err(cause) => {
                 return Err(Unexplained { cause, ..here });
             }
         }
+        known = known.after(next.insn());
     }
     Err(Unexplained {
         cause: Cause::NoEnd,

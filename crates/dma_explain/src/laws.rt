@@ -1,5 +1,6 @@
 //! Laws of programs that a work explains. Each law is the postcondition of a function that does nothing.
 
+ghost use Rattle.dma_explain.specs.AnyRegisters.{AnyExplained, AnyNarrower, AnyRefused};
 ghost use Rattle.dma_explain.specs.Alone.{ExplainedCopiesAlone};
 ghost use Rattle.dma_explain.specs.CallStays.{LoadExecutes, CallStaysIn};
 ghost use Rattle.dma_explain.specs.Changes.{CopiesSinceLoad, ChannelsCopy, LaidByPlace};
@@ -35,6 +36,16 @@ pub fn narrower_is_explained()
     ensures explained { ExplainedNarrower }
     ensures traced { TracedOnWidths }
     ensures events { EventsOnWidths }
+{}
+
+/// What [`explain::explain_from`](crate::explain::explain_from) finds when no register is known explains the program
+/// from whichever registers a channel begins it, on each channel with this bus, and on chips' narrower buses that its
+/// beats fit: so all other laws of explained programs apply. A program that is then refused for a fault is refused for
+/// it from each start.
+pub fn explained_for_any_registers()
+    ensures explained { AnyExplained }
+    ensures narrower { AnyNarrower }
+    ensures refused { AnyRefused }
 {}
 
 /// All works that explain a program have the same places in the same order. So what `explain::explain` returns is the

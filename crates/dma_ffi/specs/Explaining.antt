@@ -1,16 +1,17 @@
 -- What the calls return and write that explain a program.
 use Rattle.std.specs.Prelude.{◌≡◌, ◌≢◌, ℕ, ◌<◌, ◌≤◌, ◌⊎◌, ◌==◌, ◌&&◌, Bool, nat_le, if◌then◌else◌, ℤ, Option, None, Some, List, [], ◌++◌, length, drop, map}
-use Rattle.std.specs.Option.{option_map}
 use Rattle.dma_mem.specs.declared.segment.Segment.{Segment}
 use Rattle.dma_insn.specs.AssemblyText.{most_program_bytes}
 use Rattle.dma_explain.specs.declared.explain.Cause.TheVariants.{TooLong, Fails, LoadsPast, StoresPast, StoresFixed, DropsBytes, BytesLeft, StoresTwice}
-use Rattle.dma_explain.specs.declared.explain.Cause.TheVariants.{StoresSource, NoEnd, NoMemory}
+use Rattle.dma_explain.specs.declared.explain.Cause.TheVariants.{StoresSource, NoEnd, NoMemory, UsesUnknown}
 use Rattle.dma_explain.specs.{Explains.Finds, Explains.Refuses, declared.explain.Cause.Cause, declared.explain.Explained.Explained}
 use Rattle.dma_explain.specs.{declared.explain.Happening.Happening, declared.explain.Repeated.Repeated, declared.explain.EventSync.EventSync}
 use Rattle.dma_explain.specs.declared.explain.EventSync.TheVariants.{Waits, Signals}
+use Rattle.dma_explain.specs.declared.explain.known.Register.TheVariants.{Ccr, Dar, Lc0, Lc1, Sar}
+use Rattle.dma_explain.specs.{declared.explain.known.Register.Register, Known.FindsFrom, Known.RefusesFrom, Known.none_given}
 use Rattle.dma_explain.specs.{declared.explain.Unexplained.Unexplained}
 use Rattle.dma_chan.specs.declared.bus.Bus.TheVariants.{Chip, Ideal}
-use Rattle.dma_chan.specs.{declared.bus.Bus.Bus, declared.bus.BusWidth.BusWidth, declared.exec.Registers.Registers, Bus.accepts, Exec.start_on}
+use Rattle.dma_chan.specs.{declared.bus.Bus.Bus, declared.bus.BusWidth.BusWidth, declared.exec.Registers.Registers, Bus.accepts}
 use Rattle.dma_device.specs.{Device.DeviceValue, Explaining.IsLoadedAnd, Explaining.program_of}
 use Rattle.dma_ffi.specs.Codes.{bad_config, buffer_too_small, kind_number, no_channel, no_memory, no_program, ok_code, program_too_long, unexplained}
 use Rattle.dma_ffi.specs.{declared.channel_calls.ChannelRegisters.ChannelRegisters, declared.explaining.DmaHappening.DmaHappening}
@@ -27,10 +28,6 @@ chip (Some width) = Some (Chip width)
 abbrev pub any_bus : ℕ → Option Bus
 any_bus bits = if bits == 0 then Some Ideal else chip (width_of_bits bits)
 
--- registers that are all 0, on a bus, if there is one
-abbrev pub zeros_on : Option Bus → Option Registers
-zeros_on bus = option_map start_on bus
-
 -- SAR, DAR, CCR and the loop counters as given by C, on a bus, if there is one and it accepts CCR
 abbrev pub given_on : ChannelRegisters → Option Bus → Option Registers
 given_on c None = None
@@ -38,6 +35,14 @@ given_on c (Some bus) =
     if accepts bus c.ccr then
     Some (record { pc = 0; sar = c.sar; dar = c.dar; ccr = c.ccr; lc0 = c.lc0; lc1 = c.lc1; bus = bus })
     else None
+
+-- the number of the cause that a register is used that isn't known
+abbrev pub register_number : Register → ℕ
+register_number Sar = 17
+register_number Dar = 18
+register_number Ccr = 19
+register_number Lc0 = 20
+register_number Lc1 = 21
 
 -- The number of a cause; a fault's is the one that it has elsewhere. A program that is too long, and out of memory,
 -- have codes and no number.
@@ -53,6 +58,7 @@ cause_number BytesLeft = 12
 cause_number StoresTwice = 13
 cause_number StoresSource = 14
 cause_number NoEnd = 15
+cause_number (UsesUnknown r) = register_number r
 
 -- the number of the cause of a program that also sets bytes to 0, in a call that has no list for them
 abbrev pub stores_zeros : ℕ
@@ -223,24 +229,41 @@ with_work_cause u before = record before { work = unexplained_work_of u }
 
 -- ---- calls, by how they write what was found, or the cause
 
--- What a call returns and writes that explains a program of at most 8,192 bytes that begins with these registers, with
--- at most this number of instructions. What is found (`Finds`) is written in the call's way; or it returns
--- `unexplained` and writes why nothing is, and where (`Refuses`); or it returns `no_memory` and writes nothing.
-abbrev pub ExplainsFrom : {Out : Type 0} → (Explained → ℤ → Out → Out → Type 0) → (Unexplained → Out → Out)
-    → Registers → List ℕ → ℕ → ℤ → Out → Out → Type 0
-ExplainsFrom Writes causes start program most code before after =
-    ((x : Explained) × Finds start program most x × Writes x code before after)
-    ⊎ (((u : Unexplained) × Refuses start program most u × (code ≡ unexplained) × (after ≡ causes u before))
+-- What a call returns and writes that explains a program of at most 8,192 bytes. What is found, of which this is true,
+-- is written in the call's way; or it returns `unexplained` and writes why nothing is, and where, of which this is true;
+-- or it returns `no_memory` and writes nothing.
+abbrev pub ExplainsSo : {Out : Type 0} → (Explained → ℤ → Out → Out → Type 0) → (Unexplained → Out → Out)
+    → (Explained → Type 0) → (Unexplained → Type 0) → ℤ → Out → Out → Type 0
+ExplainsSo Writes causes Found Refused code before after =
+    ((x : Explained) × Found x × Writes x code before after)
+    ⊎ (((u : Unexplained) × Refused u × (code ≡ unexplained) × (after ≡ causes u before))
     ⊎ ((code ≡ no_memory) × (after ≡ before)))
 
--- The same of any program, from registers that C gives, if a channel can have them. Else the call returns `bad_config`,
--- and then `program_too_long` exactly above 8,192 bytes. In both cases it writes nothing.
-abbrev pub ExplainsProgram : {Out : Type 0} → (Explained → ℤ → Out → Out → Type 0) → (Unexplained → Out → Out)
-    → List ℕ → Option Registers → ℕ → ℤ → Out → Out → Type 0
-ExplainsProgram Writes causes program None most code before after = (code ≡ bad_config) × (after ≡ before)
-ExplainsProgram Writes causes program (Some start) most code before after =
+-- The same of any program, if C gives what it begins with. Else the call returns `bad_config`, and then
+-- `program_too_long` exactly above 8,192 bytes. In both cases it writes nothing.
+abbrev pub ExplainsProgram : {Out A : Type 0} → (Explained → ℤ → Out → Out → Type 0) → (Unexplained → Out → Out)
+    → (A → Explained → Type 0) → (A → Unexplained → Type 0) → List ℕ → Option A → ℤ → Out → Out → Type 0
+ExplainsProgram Writes causes Found Refused program None code before after = (code ≡ bad_config) × (after ≡ before)
+ExplainsProgram Writes causes Found Refused program (Some a) code before after =
     ((code ≡ program_too_long) × (most_program_bytes < length program) × (after ≡ before))
-    ⊎ ((length program ≤ most_program_bytes) × ExplainsFrom Writes causes start program most code before after)
+    ⊎ ((length program ≤ most_program_bytes)
+    × ExplainsSo Writes causes (Found a) (Refused a) code before after)
+
+-- What a call returns and writes that explains a program on a bus, if C gives one, with at most this number of
+-- instructions, when no register is known: it is found, or refused, from whichever the program begins (`FindsFrom`,
+-- `RefusesFrom`).
+abbrev pub ExplainsAny : {Out : Type 0} → (Explained → ℤ → Out → Out → Type 0) → (Unexplained → Out → Out)
+    → List ℕ → Option Bus → ℕ → ℤ → Out → Out → Type 0
+ExplainsAny Writes causes program bus most code before after =
+    ExplainsProgram Writes causes (λ b x. FindsFrom (none_given b) program most x)
+    (λ b u. RefusesFrom (none_given b) program most u) program bus code before after
+
+-- The same from registers that C gives, if a channel can have them (`Finds`, `Refuses`).
+abbrev pub ExplainsGiven : {Out : Type 0} → (Explained → ℤ → Out → Out → Type 0) → (Unexplained → Out → Out)
+    → List ℕ → Option Registers → ℕ → ℤ → Out → Out → Type 0
+ExplainsGiven Writes causes program given most code before after =
+    ExplainsProgram Writes causes (λ start x. Finds start program most x) (λ start u. Refuses start program most u)
+    program given code before after
 
 -- What a call returns and writes that explains the program of channel `n` of a device, begun with the registers that
 -- the channel has. If the device doesn't have the channel, or the channel no program, it returns the code for that and
@@ -250,4 +273,5 @@ abbrev pub ExplainsChannel : {Out : Type 0} → (Explained → ℤ → Out → O
 ExplainsChannel Writes causes n most d code before after =
     ((code ≡ no_channel) × (length d.threads ≤ n) × (after ≡ before))
     ⊎ (((code ≡ no_program) × (n < length d.threads) × (program_of d n ≡ None) × (after ≡ before))
-    ⊎ IsLoadedAnd d n (λ start program. ExplainsFrom Writes causes start program most code before after))
+    ⊎ IsLoadedAnd d n (λ start program.
+    ExplainsSo Writes causes (Finds start program most) (Refuses start program most) code before after))

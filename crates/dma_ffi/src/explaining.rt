@@ -3,7 +3,7 @@
 
 ghost use Rattle.std.specs.Prelude.{◌≡◌, ◌≤◌, ◌++◌, length, drop, map};
 ghost use Rattle.dma_ffi.specs.Calls.{ReadsOpen};
-ghost use Rattle.dma_ffi.specs.Explaining.{ExplainsChannel, ExplainsProgram, WritesCopy, WritesLists, any_bus, cause_number, explanation_of, happening_of, outputs, sync_numbers, unexplained_with, with_cause, zeros_on};
+ghost use Rattle.dma_ffi.specs.Explaining.{ExplainsAny, ExplainsChannel, WritesCopy, WritesLists, any_bus, cause_number, explanation_of, happening_of, outputs, register_number, sync_numbers, unexplained_with, with_cause};
 ghost use Rattle.dma_ffi.specs.inner.Found.{AnswersProgram, AnswersDevice};
 
 use crate::codes::{
@@ -12,10 +12,10 @@ use crate::codes::{
 };
 use crate::device_config::any_bus;
 use crate::kept_device::KeptDevice;
-use dma_chan::exec::Registers;
 use dma_device::device::explain::ExplainFault;
+use dma_explain::explain::known::{Given, Register};
 use dma_explain::explain::{
-    Cause, EventSync, Explained, Happening, Repeated, Unexplained, explain,
+    Cause, EventSync, Explained, Happening, Repeated, Unexplained, explain_from,
 };
 use dma_mem::segment::Segment;
 use std::alloc::Global;
@@ -56,6 +56,19 @@ pub struct Explanation {
 
 // ---- numbers
 
+// Returns the number of the cause that a register is used that isn't known.
+fn number_of_register(register: Register) -> u32
+    ensures { result ≡ register_number register }
+{
+    match register {
+        Register::Sar => 17,
+        Register::Dar => 18,
+        Register::Ccr => 19,
+        Register::Lc0 => 20,
+        Register::Lc1 => 21,
+    }
+}
+
 // Returns the number of a cause; a fault's is the one that it has elsewhere. A program that is too long, and out of
 // memory, have codes and no number.
 pub(crate) fn number_of_cause(cause: Cause) -> u32
@@ -72,6 +85,7 @@ pub(crate) fn number_of_cause(cause: Cause) -> u32
         Cause::StoresTwice => 13,
         Cause::StoresSource => 14,
         Cause::NoEnd => 15,
+        Cause::UsesUnknown(register) => number_of_register(register),
     }
 }
 
@@ -225,8 +239,9 @@ fn answer_device(
 
 // ---- calls
 
-/// Explains a program that begins with registers that are 0 by one run without memory, for at most `most` instructions,
-/// on the ideal bus or a chip's. Writes what it reads, what it writes and its happenings to the fronts of the lists, in
+/// Explains a program by one run without memory, for at most `most` instructions, on the ideal bus or a chip's, whatever
+/// the registers are with which it begins: an instruction that uses one before the program sets it is a cause, which
+/// has the register. Writes what it reads, what it writes and its happenings to the fronts of the lists, in
 /// the order of the run, and their numbers, the number of bytes and of instructions to `explanation`. If no copy
 /// explains the program, it returns `UNEXPLAINED`, and `explanation` has the cause and the place; a program
 /// that also sets bytes to 0 has a cause of its own, at offset 0. If a list is too small, no list changes, and
@@ -243,15 +258,14 @@ pub extern "C" fn dma330_explain(
     happenings: &mut [DmaHappening],
     explanation: &mut Explanation,
 ) -> i32
-    ensures { ExplainsProgram WritesCopy with_cause program.now
-        (zeros_on (any_bus bus)) most result
+    ensures { ExplainsAny WritesCopy with_cause program.now (any_bus bus) most result
         (outputs src.old dst.old happenings.old explanation.old)
         (outputs src.new dst.new happenings.new explanation.new) }
 {
     let Some(bus) = any_bus(bus) else {
         return BAD_CONFIG;
     };
-    let found = explain(alloc, Registers::start(bus), program, most);
+    let found = explain_from(alloc, Given::none(bus), program, most);
     answer(found, src, dst, happenings, explanation)
 }
 

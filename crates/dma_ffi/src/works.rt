@@ -2,7 +2,7 @@
 
 ghost use Rattle.std.specs.Prelude.{◌≡◌, ◌≤◌, ◌++◌, length, drop, map};
 ghost use Rattle.dma_ffi.specs.Calls.{ReadsOpen};
-ghost use Rattle.dma_ffi.specs.Explaining.{ExplainsChannel, ExplainsProgram, WritesWork, WritesWorkLists, any_bus, given_on, moment_of, unexplained_work_of, with_work_cause, work_found_of, work_outputs};
+ghost use Rattle.dma_ffi.specs.Explaining.{ExplainsChannel, ExplainsGiven, WritesWork, WritesWorkLists, any_bus, given_on, moment_of, unexplained_work_of, with_work_cause, work_found_of, work_outputs};
 ghost use Rattle.dma_ffi.specs.inner.Found.{AnswersProgram, AnswersDevice};
 
 use crate::channel_calls::ChannelRegisters;
@@ -247,7 +247,7 @@ pub extern "C" fn dma330_explain_work(
     moments: &mut [Moment],
     work: &mut WorkFound,
 ) -> i32
-    ensures { ExplainsProgram WritesWork with_work_cause program.now
+    ensures { ExplainsGiven WritesWork with_work_cause program.now
         (given_on start.now (any_bus bus)) most result
         (work_outputs src.old dst.old zeros.old moments.old work.old)
         (work_outputs src.new dst.new zeros.new moments.new work.new) }

@@ -1,9 +1,12 @@
 -- What `explain` prints (profile).
-use Rattle.std.specs.Prelude.{◌≡◌, ℕ, ◌-◌, ◌==◌, ◌++◌, ◌<◌, ◌⊎◌, Bool, true, false, List, [], length, flat_map, slice_get, if◌then◌else◌, codes, decimal}
+use Rattle.std.specs.Prelude.{◌≡◌, ℕ, ◌-◌, ◌==◌, ◌++◌, ◌<◌, ◌⊎◌, ◌&&◌, Bool, not, true, false, List, [], length, flat_map, slice_get, if◌then◌else◌, codes, decimal}
 use Rattle.dma_mem.specs.declared.segment.Segment.{Segment}
 use Rattle.dma_insn.specs.AssemblyText.{most_program_bytes}
-use Rattle.dma_chan.specs.{declared.bus.Bus.Bus, Exec.start_on}
-use Rattle.dma_explain.specs.Explains.{Finds, Refuses, bursts_in, next_in, traced}
+use Rattle.dma_chan.specs.declared.exec.Registers.{Registers}
+use Rattle.dma_explain.specs.Explains.{bursts_in, next_in, traced}
+use Rattle.dma_explain.specs.Known.{FindsFrom, MayBegin, RefusesFrom}
+use Rattle.dma_explain.specs.{declared.explain.known.Given.Given, declared.explain.known.Known.Known}
+use Rattle.dma_text.specs.Digits.{hex_digits}
 use Rattle.dma_explain.specs.{declared.explain.Amounts.Amounts, declared.explain.BurstCounts.BurstCounts, declared.explain.Explained.Explained}
 use Rattle.dma_explain.specs.{declared.explain.Happening.Happening, declared.explain.Repeated.Repeated, declared.explain.EventSync.EventSync}
 use Rattle.dma_explain.specs.declared.explain.EventSync.TheVariants.{Waits, Signals}
@@ -37,49 +40,75 @@ event_line h = codes "  after " ++ amounts_text h.done ++ (codes ": " ++ sync_te
 abbrev pub bursts_text : BurstCounts → List ℕ
 bursts_text b = codes "  bursts: loads " ++ decimal b.loads ++ (codes ", stores " ++ decimal b.stores ++ line_feed)
 
--- what a program copies: how much, by which bursts, from where and to where; what it sets to 0; and its events
-abbrev pub explained_text : Explained → List ℕ
-explained_text x =
-    ((codes "copies " ++ bytes_text x.size.copied ++ (codes ", with " ++ count_text x.steps ++ line_feed))
+-- an address register or CCR, or a loop counter, with which a program begins, if it is known: ` DAR 0x80003004`
+abbrev pub known_text : Bool → List ℕ → ℕ → List ℕ
+known_text known words value = if known then words ++ hex_digits value else []
+
+abbrev pub counter_text : Bool → List ℕ → ℕ → List ℕ
+counter_text known words value = if known then words ++ decimal value else []
+
+-- whether no register is known
+abbrev pub none_known : Known → Bool
+none_known k = not k.sar && not k.dar && not k.ccr && not k.lc0 && not k.lc1
+
+-- the registers from which a program is explained: `, for any registers`, or the known ones, as ` from DAR 0x80003004`
+abbrev pub given_text : Given → List ℕ
+given_text g =
+    let r = g.registers in
+    let k = g.known in
+    if none_known k then codes ", for any registers"
+    else codes ", from" ++ (known_text k.sar (codes " SAR 0x") r.sar ++ known_text k.dar (codes " DAR 0x") r.dar
+    ++ known_text k.ccr (codes " CCR 0x") r.ccr)
+    ++ (counter_text k.lc0 (codes " LC0 ") r.lc0 ++ counter_text k.lc1 (codes " LC1 ") r.lc1)
+
+-- what a program copies: how much, from which registers, by which bursts, from where and to where; what it sets to 0;
+-- and its events
+abbrev pub explained_text : Given → Explained → List ℕ
+explained_text g x =
+    ((codes "copies " ++ bytes_text x.size.copied
+    ++ (codes ", with " ++ count_text x.steps ++ given_text g ++ line_feed))
     ++ bursts_text x.bursts)
     ++ (flat_map source_line x.src.items ++ flat_map (segment_line (codes "  to ")) x.dst.items
     ++ flat_map (segment_line (codes "  zeros ")) x.zeros.items)
     ++ flat_map event_line x.events.items
 
--- why nothing explains a program on a bus, where, the registers there, and how many bytes were stored before
-abbrev pub unexplained_text : Bus → List ℕ → Unexplained → List ℕ
-unexplained_text bus program u =
-    let x = traced (start_on bus) program u.steps in
+-- Why nothing explains a program, where, the registers there, and how many bytes were stored before. The registers are
+-- those of a run from the given ones, in which those that aren't known are 0.
+abbrev pub unexplained_text : Registers → List ℕ → Unexplained → List ℕ
+unexplained_text start program u =
+    let x = traced start program u.steps in
     let first = slice_get program x.registers.pc in
     let next = next_in program x in
-    let touches = touches_in bus program u.addr u.steps in
+    let touches = touches_in start program u.addr u.steps in
     let why = cause_text u.cause first next u.steps (front_at x) ++ conflict_text u.cause u.addr touches in
     refusal_text why first next u.steps (front_at x) u.stored
 
--- `explain` prints what it finds of a program on a bus with a limit of instructions, with the counts of its bursts.
-pub record PrintsCopy (bus : Bus) (program : List ℕ) (most : ℕ) (printed : List ℕ) : Type 0 where
+-- `explain` prints what it finds of a program from given registers with a limit of instructions, and the counts of its
+-- bursts.
+pub record PrintsCopy (given : Given) (program : List ℕ) (most : ℕ) (printed : List ℕ) : Type 0 where
   pub explained : Explained
-  pub finds : Finds (start_on bus) program most explained
-  pub bursts : explained.bursts ≡ bursts_in (start_on bus) program (explained.steps - 1)
-  pub text : printed ≡ explained_text explained
+  pub finds : FindsFrom given program most explained
+  pub bursts : (start : Registers) → MayBegin given start →
+      explained.bursts ≡ bursts_in start program (explained.steps - 1)
+  pub text : printed ≡ explained_text given explained
 
 -- It prints why and where nothing explains a program.
-pub record PrintsCause (bus : Bus) (program : List ℕ) (most : ℕ) (printed : List ℕ) : Type 0 where
+pub record PrintsCause (given : Given) (program : List ℕ) (most : ℕ) (printed : List ℕ) : Type 0 where
   pub unexplained : Unexplained
-  pub refuses : Refuses (start_on bus) program most unexplained
-  pub text : printed ≡ unexplained_text bus program unexplained
+  pub refuses : RefusesFrom given program most unexplained
+  pub text : printed ≡ unexplained_text given.registers program unexplained
 
 -- What `explain` prints if it succeeds or fails: what it finds, or that the program is too long, or else a cause.
-abbrev pub Prints : Bus → List ℕ → ℕ → Bool → List ℕ → Type 0
-Prints bus program most true printed = PrintsCopy bus program most printed
-Prints bus program most false printed =
-    ((most_program_bytes < length program) × (printed ≡ long_text)) ⊎ PrintsCause bus program most printed
+abbrev pub Prints : Given → List ℕ → ℕ → Bool → List ℕ → Type 0
+Prints given program most true printed = PrintsCopy given program most printed
+Prints given program most false printed =
+    ((most_program_bytes < length program) × (printed ≡ long_text)) ⊎ PrintsCause given program most printed
 
 -- What is printed is appended to `out` if the program is explained, else to `err`. Then the warnings about the program
 -- are appended to `err`.
-pub record Appends (bus : Bus) (program : List ℕ) (most : ℕ) (copies : Bool)
+pub record Appends (given : Given) (program : List ℕ) (most : ℕ) (copies : Bool)
     (out err new_out new_err : List ℕ) : Type 0 where
   pub printed : List ℕ
-  pub prints : Prints bus program most copies printed
+  pub prints : Prints given program most copies printed
   pub to_out : new_out ≡ out ++ (if copies then printed else [])
   pub to_err : new_err ≡ err ++ (if copies then [] else printed) ++ warnings_text copies (warnings_of program)

@@ -3,7 +3,7 @@ use Rattle.std.specs.Prelude.{◌≡◌, ℕ, ◌++◌, ◌⊎◌, nat_lt, Bool,
 use Rattle.dma_insn.specs.AssemblyText.{most_program_bytes}
 use Rattle.dma_mem.specs.Regions.{Piece, in_order, pieces_of}
 use Rattle.dma_mem.specs.{declared.regions.Region.Region, declared.segment.Segment.Segment, Lent.lies_in_any}
-use Rattle.dma_explain.specs.{declared.explain.Explained.Explained, Explains.Finds}
+use Rattle.dma_explain.specs.{declared.explain.Explained.Explained, Explains.Finds, Known.all_given}
 use Rattle.dma_chan.specs.Exec.{start_on}
 use Rattle.dma_trace.specs.{declared.options.TraceOptions.TraceOptions, Explained.Prints, Traced.Shows}
 
@@ -44,11 +44,12 @@ needs_ram program =
     if nat_lt most_program_bytes (length program) then []
     else codes "  (trace needs --ram here: without it, the RAM is the ranges that explain finds)\n"
 
--- If nothing explains the program, the message of `explain` is appended to `err`, with a line that `--ram` is needed.
+-- If nothing explains the program from registers that are 0, the message of `explain` is appended to `err`, with a line
+-- that `--ram` is needed.
 pub record Needs (o : TraceOptions) (program : List ℕ) (good : Bool)
     (out err wave new_out new_err new_wave : List ℕ) : Type 0 where
   pub printed : List ℕ
-  pub prints : Prints o.bus program (most_explained o) false printed
+  pub prints : Prints (all_given (start_on o.bus)) program (most_explained o) false printed
   pub fails : good ≡ false
   pub to_out : new_out ≡ out
   pub to_err : new_err ≡ err ++ printed ++ needs_ram program

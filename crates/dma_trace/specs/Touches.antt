@@ -5,8 +5,8 @@ use Rattle.std.specs.Option.{option_and, option_or}
 use Rattle.dma_text.specs.Digits.{hex_digits}
 use Rattle.dma_insn.specs.declared.chip.ChipInsn.{ChipInsn}
 use Rattle.dma_insn.specs.declared.chip.ChipInsn.TheVariants.{Ld, St, StoreZeros}
-use Rattle.dma_chan.specs.Exec.{destination_of, source_of, start_on}
-use Rattle.dma_chan.specs.{declared.bus.Bus.Bus, declared.exec.Registers.Registers, declared.turn.FaultKind.FaultKind, declared.bursts.Burst.Burst, Bursts.span_of}
+use Rattle.dma_chan.specs.Exec.{destination_of, source_of}
+use Rattle.dma_chan.specs.{declared.exec.Registers.Registers, declared.turn.FaultKind.FaultKind, declared.bursts.Burst.Burst, Bursts.span_of}
 use Rattle.dma_explain.specs.{declared.explain.Cause.Cause, declared.explain.Cause.TheVariants.StoresTwice, declared.explain.Cause.TheVariants.StoresSource}
 use Rattle.dma_explain.specs.{Explains.next_in, Explains.traced}
 use Rattle.dma_trace.specs.{declared.touches.Access.Access, declared.touches.Touches.Touches, Words.offset_text}
@@ -46,12 +46,13 @@ abbrev pub after_next : Result ChipInsn FaultKind → ℕ → ℕ → Registers 
 after_next (Ok i) a n r t = after_touch i a n r t
 after_next (Err kind) a n r t = t
 
--- Finds the first load of an address and its first two stores among a program's first n instructions on a bus.
-abbrev pub touches_in : Bus → List ℕ → ℕ → ℕ → Touches
-touches_in bus program a zero = untouched
-touches_in bus program a (suc n) =
-    let x = traced (start_on bus) program n in
-    after_next (next_in program x) a (n + 1) x.registers (touches_in bus program a n)
+-- Finds the first load of an address and its first two stores among the first n instructions of a program that begins
+-- with these registers.
+abbrev pub touches_in : Registers → List ℕ → ℕ → ℕ → Touches
+touches_in start program a zero = untouched
+touches_in start program a (suc n) =
+    let x = traced start program n in
+    after_next (next_in program x) a (n + 1) x.registers (touches_in start program a n)
 
 -- ---- text
 

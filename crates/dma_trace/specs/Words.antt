@@ -14,6 +14,8 @@ use Rattle.dma_chan.specs.{Bus.widest_beat, Exec.destination_of, Exec.fault_bit,
 use Rattle.dma_explain.specs.declared.explain.Cause.{Cause}
 use Rattle.dma_trace.specs.{declared.words.Front.Front, Columns.aligned}
 use Rattle.dma_explain.specs.declared.explain.Cause.TheVariants as causes
+use Rattle.dma_explain.specs.declared.explain.known.Register.{Register}
+use Rattle.dma_explain.specs.declared.explain.known.Register.TheVariants as registers
 
 abbrev pub line_feed : List ℕ
 line_feed = 10 ∷ []
@@ -154,6 +156,21 @@ fault_text kind first next f =
 
 -- ---- causes
 
+-- a register's name
+abbrev pub register_name : Register → List ℕ
+register_name registers.Sar = codes "SAR"
+register_name registers.Dar = codes "DAR"
+register_name registers.Ccr = codes "CCR"
+register_name registers.Lc0 = codes "LC0"
+register_name registers.Lc1 = codes "LC1"
+
+-- why an instruction may not use a register that isn't known: a DMAMOV uses the old value for nothing but to compare it
+unfoldable pub uses_text : Register → Result ChipInsn FaultKind → Front → List ℕ
+uses_text r (Ok (Mov reg v)) f =
+    (codes "the buffer holds " ++ bytes_text f.held) ++ (codes ", which a chip drops or keeps by the old " ++ register_name r)
+    ++ codes ", which the program hasn't set"
+uses_text r next f = codes "it uses " ++ register_name r ++ codes ", which the program hasn't set"
+
 -- why an instruction is part of no work, by the registers and the buffer before it, after this number of others
 unfoldable pub cause_text : Cause → Option ℕ → Result ChipInsn FaultKind → ℕ → Front → List ℕ
 cause_text causes.TooLong first next n f = codes "the program has more than 8192 bytes"
@@ -167,6 +184,7 @@ cause_text causes.StoresTwice first next n f = codes "a byte is stored twice"
 cause_text causes.StoresSource first next n f = codes "a byte is stored where one is loaded"
 cause_text causes.NoEnd first next n f = codes "no end after " ++ count_text n
 cause_text causes.NoMemory first next n f = codes "out of memory"
+cause_text (causes.UsesUnknown r) first next n f = uses_text r next f
 
 -- ---- refusals
 

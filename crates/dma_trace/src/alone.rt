@@ -11,7 +11,9 @@ use crate::explain::{USUAL_MOST, find};
 use crate::options::TraceOptions;
 use crate::ram::{ranges_found, regions_over, zeros_at};
 use crate::trace::trace_all;
+use dma_chan::exec::Registers;
 use dma_chan::program::MAX_PROGRAM_BYTES;
+use dma_explain::explain::known::Given;
 use dma_io::progress::Progress;
 use dma_mem::segment::Segment;
 use dma_text::text::Text;
@@ -78,7 +80,9 @@ pub(crate) fn trace_found<P: Progress>(
 {
     // As many instructions as by `explain` alone, or the trace's limit if it is larger.
     let most = options.limit.max(USUAL_MOST);
-    match find(alloc, program, options.bus, most, err, progress)? {
+    // A trace begins with registers that are 0.
+    let given = Given::all(Registers::start(options.bus));
+    match find(alloc, program, given, most, err, progress)? {
         Some(found) => {
             let ranges = ranges_found(alloc, &found)?;
             trace_over(alloc, program, &ranges, options, out, err, wave, progress)

@@ -7,7 +7,7 @@ ghost use Rattle.dma_insn.specs.ControlWord.{control_of};
 ghost use Rattle.dma_chan.specs.declared.turn.FaultKind.{FaultKind};
 ghost use Rattle.dma_text.specs.Text.{Begins};
 ghost use Rattle.dma_trace.specs.Front.{point_of};
-ghost use Rattle.dma_trace.specs.Words.{cause_text, chip_only_at, control_text, control_words, end_text, fault_name, fault_text, fault_words, fetch_words, field_at, long_text, name_at, next_text, operand_words, on_chip_bus, place_text, refused_words, state_text, undefined_words};
+ghost use Rattle.dma_trace.specs.Words.{cause_text, chip_only_at, control_text, control_words, end_text, fault_name, fault_text, fault_words, fetch_words, field_at, long_text, name_at, next_text, operand_words, on_chip_bus, place_text, refused_words, register_name, state_text, undefined_words, uses_text};
 
 use crate::amounts::{Bytes, Instructions, Offset, Range};
 use crate::columns::FrontColumns;
@@ -17,6 +17,7 @@ use dma_chan::channel::Channel;
 use dma_chan::exec::Registers;
 use dma_chan::turn::FaultKind;
 use dma_explain::explain::Cause;
+use dma_explain::explain::known::Register;
 use dma_explain::explain::tracer::read_of;
 use dma_insn::chip::ChipInsn;
 use dma_insn::control::{Control, ControlFault};
@@ -309,6 +310,47 @@ impl Text for Failure<'_> {
     }
 }
 
+// Returns a register's name.
+fn register_name(register: Register) -> &'static str
+    ensures { result.now ≡ register_name register }
+{
+    match register {
+        Register::Sar => "SAR",
+        Register::Dar => "DAR",
+        Register::Ccr => "CCR",
+        Register::Lc0 => "LC0",
+        Register::Lc1 => "LC1",
+    }
+}
+
+/// Why an instruction may not use a register that isn't known.
+#[derive(Drop)]
+struct Uses<'a> {
+    register: Register,
+    at: &'a Point,
+}
+
+impl Text for Uses<'_> {
+    ghost text = { λ uses. uses_text uses.register uses.at.now.ahead uses.at.now.front };
+
+    #[tactic(auto, unfolding(crate::specs::Words::uses_text))]
+    fn push(&self, out: &mut Vec<u8>) -> Result<(), AllocError> {
+        let name = register_name(self.register);
+        match self.at.ahead {
+            Ok(ChipInsn::Mov(_, _)) => {
+                let held = Bytes(u64::from(self.at.front.held));
+                (
+                    ("the buffer holds ", held),
+                    (", which a chip drops or keeps by the old ", name),
+                    ", which the program hasn't set",
+                )
+                    .push(out)
+            }
+            _ => ("it uses ", name, ", which the program hasn't set").push(out),
+        }
+    }
+}
+
 /// Why an instruction is part of no work.
 #[derive(Drop)]
 pub struct Why<'a> {
@@ -341,6 +383,7 @@ impl Text for Why<'_> {
             Cause::StoresSource => "a byte is stored where one is loaded".push(out),
             Cause::NoEnd => ("no end after ", Instructions(u64::from(at.steps))).push(out),
             Cause::NoMemory => "out of memory".push(out),
+            Cause::UsesUnknown(register) => Uses { register, at }.push(out),
         }
     }
 }

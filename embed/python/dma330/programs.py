@@ -62,9 +62,9 @@ def explain(program: Buffer, bus: SupportsIndex = 0, most: SupportsIndex = 10000
         assert found.src == [(0x1000, 300, 1)] and found.dst == [(0x2000, 300)]
         assert found.happenings == [(HappeningKind.SIGNALS, 3, 300)]
 
-    `bus` is 0 for a `Channel`, or the width of a device's bus, 32, 64 or 128. The program begins with registers that
-    are 0, and runs without a memory for at most `most` instructions. Raises BadConfig for another bus, ProgramTooLong,
-    NoMemory, Unexplained."""
+    `bus` is 0 for a `Channel`, or the width of a device's bus, 32, 64 or 128. The program runs without a memory for at
+    most `most` instructions, whatever the registers are with which it begins: a register isn't known until the program
+    sets it. Raises BadConfig for another bus, ProgramTooLong, NoMemory, Unexplained."""
     program = bytes_of(program)
     words = (program, len(program), number(bus, 32, "bus"), number(most, 32, "most"))
     return explanation_of(lambda *lists: CALLS["explain"](*words, *lists))

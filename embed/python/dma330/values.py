@@ -105,6 +105,11 @@ class Cause(IntEnum):
     STORES_SOURCE = 14  # at DMAEND a byte was stored at an address that was read
     NO_END = 15  # no DMAEND is among the first `most` instructions
     STORES_ZEROS = 16  # a DMASTZ sets bytes to 0, which only explain_work lists
+    UNSET_SAR = 17  # for explain, the instruction uses a register that the program hasn't set
+    UNSET_DAR = 18  # also for a DMAMOV DAR, DMAADDH or DMAADNH while bytes are in the buffer
+    UNSET_CCR = 19
+    UNSET_LC0 = 20
+    UNSET_LC1 = 21
 
 
 class Csr(IntEnum):

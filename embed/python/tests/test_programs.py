@@ -21,13 +21,16 @@ CAUSES = {Cause.UNDEF_INSTR: (64, "25 00"), Cause.OPERAND_INVALID: (64, "BC 01 F
           Cause.MFIFO_ERR: (128, MOVES + "BC 01 F9 42 BE 00 04 04 08 08 00"),
           Cause.ST_DATA_UNAVAILABLE: (64, MOVES + "BC 01 05 42 8D 00 04 08 00"),
           Cause.INSTR_FETCH_ERR: (64, MOVES), Cause.LOADS_PAST: (0, "BC 00 FC FF FF FF BC 01 07 C0 01 00 04 00"),
-          Cause.STORES_PAST: (0, "BC 02 FC FF FF FF BC 01 07 C0 01 00 04 08 00"),
+          Cause.STORES_PAST: (0, MOVES + "BC 02 FC FF FF FF BC 01 07 C0 01 00 04 08 00"),
           Cause.STORES_FIXED: (64, MOVES + "BC 01 05 00 00 00 04 08 00"),
           Cause.DROPS_BYTES: (64, MOVES + WORDS + "04 BC 02 02 20 00 00 08 00"),
           Cause.BYTES_LEFT: (64, MOVES + WORDS + "04 00"),
           Cause.STORES_TWICE: (64, MOVES + WORDS + "04 08 BC 02 00 20 00 00 04 08 00"),
           Cause.STORES_SOURCE: (64, "BC 00 00 10 00 00 BC 02 00 10 00 00 " + WORDS + "04 08 00"),
-          Cause.NO_END: (64, "20 01 38 02"), Cause.STORES_ZEROS: (64, MOVES + WORDS + "0C 00")}
+          Cause.NO_END: (64, "20 01 38 02"), Cause.STORES_ZEROS: (64, MOVES + WORDS + "0C 00"),
+          Cause.UNSET_SAR: (64, WORDS + "04 00"), Cause.UNSET_CCR: (64, MOVES + "04 08 00"),
+          Cause.UNSET_DAR: (64, "BC 00 00 10 00 00 " + WORDS + "04 BC 02 00 20 00 00 08 00"),
+          Cause.UNSET_LC0: (64, "22 01 38 00 00"), Cause.UNSET_LC1: (64, "20 01 3C 00 00")}
 
 
 class Programs(unittest.TestCase):

@@ -151,6 +151,18 @@ pub enum Cause {
     NoEnd,
     /// By DMASTZ it also sets bytes to 0: [`explain_work`] explains it. The offset is 0. Not for [`Bus::Channel`].
     StoresZeros,
+    /// For [`explain`], the instruction uses SAR, which the program hasn't set.
+    UnsetSar,
+    /// For [`explain`], the instruction uses DAR, which the program hasn't set. While bytes are in the buffer, a DMAMOV
+    /// DAR, DMAADDH or DMAADNH uses the old DAR, too: a chip, and a device, compares it with the new one, to find
+    /// whether it drops the bytes. Not for [`Bus::Channel`].
+    UnsetDar,
+    /// For [`explain`], the instruction uses CCR, which the program hasn't set.
+    UnsetCcr,
+    /// For [`explain`], a DMALPEND uses LC0, which the program hasn't set.
+    UnsetLc0,
+    /// For [`explain`], a DMALPEND uses LC1, which the program hasn't set.
+    UnsetLc1,
 }
 
 impl fmt::Display for Cause {
@@ -170,6 +182,11 @@ impl fmt::Display for Cause {
             Cause::StoresSource => "a byte was stored at an address that was read",
             Cause::NoEnd => "no DMAEND is among the instructions that were allowed",
             Cause::StoresZeros => "it also sets bytes to 0",
+            Cause::UnsetSar => "the instruction uses SAR, which the program hasn't set",
+            Cause::UnsetDar => "the instruction uses DAR, which the program hasn't set",
+            Cause::UnsetCcr => "the instruction uses CCR, which the program hasn't set",
+            Cause::UnsetLc0 => "the instruction uses LC0, which the program hasn't set",
+            Cause::UnsetLc1 => "the instruction uses LC1, which the program hasn't set",
         })
     }
 }
@@ -203,16 +220,17 @@ pub(crate) fn work_of(raw: calls::RawExplained<sys::RawWork>) -> Result<Work, Er
     Ok(Work { src: raw.src, dst: raw.dst, zeros: raw.zeros, moments, copied, cleared, steps })
 }
 
-/// Returns what a program copies on a bus, by one run without memory for at most `most` instructions. It begins with
-/// registers that are 0, as a [`Channel`](crate::Channel) does; a device's channel may have others: see
-/// [`explain_work`].
+/// Returns what a program copies on a bus, by one run without memory for at most `most` instructions, whatever the
+/// channel's registers are when it begins. A device's channel keeps its registers over a DMAGO, so another program may
+/// have left anything there: a register isn't known until the program sets it. [`explain_work`] explains a program that
+/// begins with given registers.
 ///
 /// The order and the addresses of a program's instructions are the same in each memory. So a channel that runs the
 /// program copies these bytes, if the regions have all these addresses, none that it writes is read-only, no mark lies
 /// there, and nobody else writes there meanwhile.
 ///
-/// Fails with `ProgramTooLong`; with `Unexplained` if the program is no copy in at most `most` instructions; or with
-/// `NoMemory`.
+/// Fails with `ProgramTooLong`; with `Unexplained` if the program is no copy in at most `most` instructions, or uses a
+/// register before it sets it; or with `NoMemory`.
 ///
 /// ```
 /// use dma330::{assemble, explain, Bus, Cause, Error, Happening, HappeningKind, Repeated, Segment};
@@ -237,7 +255,7 @@ pub fn explain(program: &[u8], bus: Bus, most: u32) -> Result<Explanation, Error
 /// the `sar`, `dar`, `ccr`, `lc0` and `lc1` of these registers: a device's channel keeps its registers over a DMAGO, so
 /// a driver's program may leave out a DMAMOV.
 ///
-/// Fails as [`explain`] does, but never with `StoresZeros`, and with `BadConfig` if no channel on the bus has this
+/// Fails as [`explain`] does, but never with `StoresZeros` or `UnsetSar` to `UnsetLc1`, and with `BadConfig` if no channel on the bus has this
 /// `ccr`.
 ///
 /// ```
@@ -252,9 +270,12 @@ pub fn explain(program: &[u8], bus: Bus, most: u32) -> Result<Explanation, Error
 /// assert_eq!(found.moments, [Moment { kind: HappeningKind::Signals, event: 7, copied: 4, cleared: 4 }]);
 /// assert_eq!((found.copied, found.cleared, found.steps), (4, 4, 5));
 ///
-/// let zeros = [0xBC, 1, 0x05, 0x40, 0x01, 0x00, 0x0C, 0x00]; // DMAMOV CCR, DMASTZ, DMAEND
+/// // DMAMOV DAR, DMAMOV CCR, DMASTZ, DMAEND
+/// let zeros = [0xBC, 2, 0, 0x20, 0, 0, 0xBC, 1, 0x05, 0x40, 0x01, 0x00, 0x0C, 0x00];
 /// let error = explain(&zeros, bus, 1000).unwrap_err();
 /// assert_eq!(error, Error::Unexplained { cause: Cause::StoresZeros, pc: 0, steps: 0 });
+/// let error = explain(&program, bus, 1000).unwrap_err();
+/// assert_eq!(error, Error::Unexplained { cause: Cause::UnsetSar, pc: 0, steps: 0 });
 /// # Ok::<(), Error>(())
 /// ```
 pub fn explain_work(program: &[u8], bus: Bus, start: &Registers, most: u32) -> Result<Work, Error> {

@@ -89,7 +89,7 @@ pub const FAULTS: [(u32, Fault); 7] = [
     (7, Fault::DataReadErr),
 ];
 pub const HAPPENING_KINDS: [(u32, HappeningKind); 2] = [(0, HappeningKind::Waits), (1, HappeningKind::Signals)];
-pub const CAUSES: [(u32, Cause); 14] = [
+pub const CAUSES: [(u32, Cause); 19] = [
     (1, Cause::UndefInstr),
     (2, Cause::OperandInvalid),
     (3, Cause::MfifoErr),
@@ -104,6 +104,11 @@ pub const CAUSES: [(u32, Cause); 14] = [
     (14, Cause::StoresSource),
     (15, Cause::NoEnd),
     (16, Cause::StoresZeros),
+    (17, Cause::UnsetSar),
+    (18, Cause::UnsetDar),
+    (19, Cause::UnsetCcr),
+    (20, Cause::UnsetLc0),
+    (21, Cause::UnsetLc1),
 ];
 
 #[repr(C)]

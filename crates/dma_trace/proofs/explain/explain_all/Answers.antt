@@ -8,7 +8,7 @@ pub returns-in-Some-clause-ok : goal.returns-in-Some-clause-ok
 returns-in-Some-clause-ok g c =
     let found = rw c.in-Some.is at c.in_ok-explained.ensures.ok in
     record {
-      printed = explained_text c.in-Some.explained;
+      printed = explained_text c.args.given c.in-Some.explained;
       prints = record { explained = c.in-Some.explained; finds = found.0; bursts = found.1; text = refl };
       to_out = c.in_ok-push-in-Some.ensures.ok;
       to_err =

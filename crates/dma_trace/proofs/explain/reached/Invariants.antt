@@ -1,12 +1,11 @@
 -- The run goes on, and the loads and stores of the address are those so far.
 use Rattle.std.proofs.Common.{◌≡◌}
-use Rattle.dma_chan.specs.Exec.{start_on}
 use Rattle.dma_explain.specs.inner.Tracing.{Follows}
 use Rattle.dma_trace.specs.Touches.{touches_in}
 use Rattle.dma_trace.proofs.explain.reached.Given as goal
 
 abbrev pub invariant-loop-done : goal.invariant-loop-done
 invariant-loop-done g l = record {
-  follows : Follows (start_on l.fn.bus) l.program l.done l.tracer;
-  touches : l.touches ≡ touches_in l.fn.bus l.program l.fn.addr l.done;
+  follows : Follows l.fn.start l.program l.done l.tracer;
+  touches : l.touches ≡ touches_in l.fn.start l.program l.fn.addr l.done;
 }

@@ -33,3 +33,7 @@ returns-in-BytesLeft-clause-ok c =
     let P : ℕ → Type 0 = λ n. OnOk c.push-in-BytesLeft.result
     (c.push-in-BytesLeft.new.out.items ≡ c.args.out.now.items ++ (codes "left over in the buffer: " ++ bytes_text n)) in
     rw c.in-BytesLeft.is (subst P c.from.ensures c.push-in-BytesLeft.ensures.ok)
+
+pub returns-in-UsesUnknown-clause-ok : goal.returns-in-UsesUnknown-clause-ok
+unfolding cause_text
+returns-in-UsesUnknown-clause-ok c = rw c.in-UsesUnknown.is c.push-in-UsesUnknown.ensures.ok
