@@ -1,4 +1,5 @@
--- Definitions that no reader of a public law has to trust: how the reader of a line goes through its words, and
--- bytes of which some were read.
+-- Definitions that no reader of a public law has to trust: how the reader of a line goes through its words, bytes of
+-- which some were read, and how a call is kept.
 pub mod Reading
 pub mod Digits
+pub mod Kept

@@ -10,6 +10,7 @@
 mod arguments;
 pub mod fault;
 pub mod interpreter;
+pub mod kept;
 pub mod laws;
 pub mod lines;
 pub mod list;

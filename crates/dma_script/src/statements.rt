@@ -3,17 +3,18 @@ ghost use Rattle.std.specs.Prelude.{◌≡◌, IfOk};
 ghost use Rattle.dma_script.specs.Lines.{Gives};
 ghost use Rattle.dma_script.specs.Words.{words_of};
 ghost use Rattle.dma_script.specs.Statements.{IsWithin, first_line, keyword_of, run_script_of};
+ghost use Rattle.dma_script.specs.inner.Kept.{call_of};
 ghost use Rattle.dma_script.specs.inner.Reading.{line_added, statement_added};
 
 use crate::arguments::Arguments;
 pub use crate::arguments::MAX_LINE_STEPS;
 use crate::fault::{Cause, LineError, ScriptError, missing};
+use crate::kept::{Boxed, Kept, KeptCall};
 use crate::lines::{Script, read_script};
 use crate::list::List;
 use crate::transfer_line::{Origin, TransferLine, transfer};
 use crate::words::next_word;
 use dma_io::input::MOST_RESERVED;
-use dma_mem::call::Call;
 use dma_mem::limits::{MAX_CHANNELS, MAX_SIZE};
 use dma_mem::segment::Segment;
 use dma_text::bytes::is_text;
@@ -65,13 +66,19 @@ pub enum Keyword {
 #[derive(Drop)]
 pub enum Statement {
     /// Makes one call: for a line that was read, any but `submit` and `step`, which have variants of their own.
-    Call(Call),
+    Call(KeptCall),
     /// Submits a transfer on a channel.
-    Submit { ch: u8, transfer: TransferLine },
+    Submit {
+        ch: u8,
+        transfer: Boxed<TransferLine>,
+    },
     /// Copies or fills at once.
-    Copy(TransferLine),
+    Copy(Boxed<TransferLine>),
     /// Takes 1 to [`MAX_LINE_STEPS`] steps of a channel, 1 if the line has no number.
-    Step { ch: u8, count: u32 },
+    Step {
+        ch: u8,
+        count: u32,
+    },
     /// Prints the counts of the whole run.
     Totals,
 }
@@ -155,8 +162,8 @@ fn read_write(
 {
     let addr = words.number();
     let bytes = words.bytes(alloc, kept)?;
-    let write = Statement::Call(Call::Write { addr, bytes });
-    Ok(statements.push(write)?)
+    let write = KeptCall::write(alloc, addr, bytes)?;
+    Ok(statements.push(Statement::Call(write))?)
 }
 
 /// Reads `LIST to LIST` and adds the statement of a `copy` line.
@@ -171,7 +178,8 @@ fn read_copy(
 {
     let src = Origin::List(words.list(alloc)?);
     let dst = words.to_list(alloc)?;
-    Ok(statements.push(Statement::Copy(TransferLine::plain(src, dst)))?)
+    let transfer = Boxed::new(alloc, TransferLine::plain(src, dst))?;
+    Ok(statements.push(Statement::Copy(transfer))?)
 }
 
 /// Reads `ADDR to LIST` and adds the statement of a `fill` line.
@@ -186,7 +194,8 @@ fn read_fill(
 {
     let src = Origin::Place(words.number());
     let dst = words.to_list(alloc)?;
-    Ok(statements.push(Statement::Copy(TransferLine::plain(src, dst)))?)
+    let transfer = Boxed::new(alloc, TransferLine::plain(src, dst))?;
+    Ok(statements.push(Statement::Copy(transfer))?)
 }
 
 /// Reads a channel and a transfer, and adds the statement of a `submit` line.
@@ -200,8 +209,17 @@ fn read_submit(
         (statement_added Keyword.Submit statements.old words.old) }
 {
     let ch = words.byte();
-    let transfer = transfer(alloc, words)?;
+    let read = transfer(alloc, words)?;
+    let transfer = Boxed::new(alloc, read)?;
     Ok(statements.push(Statement::Submit { ch, transfer })?)
+}
+
+/// Returns the statement of a line that makes one call.
+#[inline(always)]
+fn call(kept: Kept) -> Statement
+    ensures { result ≡ Statement.Call (call_of kept) }
+{
+    Statement::Call(KeptCall { kept })
 }
 
 /// Reads the words of a line after the first, and adds its statement. Fails with `First` for the keyword of the first
@@ -223,36 +241,36 @@ fn read_statement(
         Keyword::Copy => return read_copy(alloc, words, statements),
         Keyword::Fill => return read_fill(alloc, words, statements),
         Keyword::Submit => return read_submit(alloc, words, statements),
-        Keyword::Read => {
-            let Segment { addr, len } = words.segment();
-            Statement::Call(Call::Read { addr, len })
-        }
-        Keyword::Issue => Statement::Call(Call::Issue { ch: words.byte() }),
-        Keyword::Pause => Statement::Call(Call::Pause { ch: words.byte() }),
-        Keyword::Resume => Statement::Call(Call::Resume { ch: words.byte() }),
-        Keyword::Terminate => Statement::Call(Call::Terminate { ch: words.byte() }),
         Keyword::Step => Statement::Step {
             ch: words.byte(),
             count: words.count(),
         },
-        Keyword::Status => Statement::Call(Call::Status {
+        Keyword::Totals => Statement::Totals,
+        Keyword::Read => {
+            let Segment { addr, len } = words.segment();
+            call(Kept::Read { addr, len })
+        }
+        Keyword::Issue => call(Kept::Issue { ch: words.byte() }),
+        Keyword::Pause => call(Kept::Pause { ch: words.byte() }),
+        Keyword::Resume => call(Kept::Resume { ch: words.byte() }),
+        Keyword::Terminate => call(Kept::Terminate { ch: words.byte() }),
+        Keyword::Status => call(Kept::Status {
             ch: words.byte(),
             cookie: words.number(),
         }),
-        Keyword::Result => Statement::Call(Call::Result {
+        Keyword::Result => call(Kept::Result {
             ch: words.byte(),
             cookie: words.number(),
         }),
-        Keyword::Mark => Statement::Call(Call::Mark {
+        Keyword::Mark => call(Kept::Mark {
             kind: words.mark_kind(),
             segment: words.segment(),
         }),
-        Keyword::Unmark => Statement::Call(Call::Unmark),
-        Keyword::Raise => Statement::Call(Call::Raise {
+        Keyword::Unmark => call(Kept::Unmark),
+        Keyword::Raise => call(Kept::Raise {
             event: words.byte(),
         }),
-        Keyword::Checkpoint => Statement::Call(Call::Checkpoint),
-        Keyword::Totals => Statement::Totals,
+        Keyword::Checkpoint => call(Kept::Checkpoint),
     };
     Ok(statements.push(statement)?)
 }

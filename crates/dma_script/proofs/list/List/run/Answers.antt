@@ -1,4 +1,4 @@
-use Rattle.std.proofs.Common.{◌∷◌, rules, subst}
+use Rattle.std.proofs.Common.{subst}
 use Rattle.std.specs.{List.All, Vec.Iter.into_iter_items}
 use Rattle.std.proofs.lemmas.List.Elements.{All-head}
 use Rattle.dma_script.proofs.InterpretedLemmas.{ran_more, taken_rest}
