@@ -33,7 +33,7 @@ lib=$(realpath -m "${LIB:-$built}")
 jobs=${JOBS:-$(nproc)}
 mkdir -p "${1:-.}"
 cd "${1:-.}"
-[ -f "$lib" ] || fail "$lib is missing: \`make -C embed library\` builds it, or LIB names it"
+[ -f "$lib" ] || fail "$lib is missing: \`make library\` builds it, or LIB names it"
 
 # ---- which QEMU ----
 

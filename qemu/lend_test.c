@@ -1,7 +1,7 @@
 /* Tests which regions dma330.c lends: a part of RAM that the guest sees at two addresses is lent at the lower one only,
  * or at the one where it can be written; the rest of both sections is lent, and each reference to an owner that was
- * taken is dropped. Tests also when a slice may begin, and how long one takes if step-ns isn't 0. ../check.sh compiles
- * it with stubs in place of QEMU's headers; the functions that it doesn't define are never called. */
+ * taken is dropped. Tests also when a slice may begin, and how long one takes if step-ns isn't 0. tests/test_library
+ * compiles it with stubs in place of QEMU's headers; the functions that it doesn't define are never called. */
 #include "dma330.c"
 #include <stdio.h>
 

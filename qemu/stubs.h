@@ -1,5 +1,5 @@
-/* The declarations of QEMU 7.2, or of QEMU 10.0 if QEMU_VERSION_MAJOR is 10, that dma330.c uses, with which ../check.sh
- * compiles it without QEMU. */
+/* The declarations of QEMU 7.2, or of QEMU 10.0 if QEMU_VERSION_MAJOR is 10, that dma330.c uses, with which
+ * tests/test_library compiles it without QEMU. */
 #ifndef STUBS_H
 #define STUBS_H
 

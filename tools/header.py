@@ -6,7 +6,7 @@ import collections
 import os
 import re
 
-HEADER = os.environ.get("DMA330_H", os.path.join(os.path.dirname(os.path.realpath(__file__)), "include/dma330.h"))
+HEADER = os.environ.get("DMA330_H", os.path.join(os.path.dirname(os.path.realpath(__file__)), "../include/dma330.h"))
 KINDS = {"uint8_t": "u8", "uint32_t": "u32", "uint64_t": "u64", "int32_t": "i32", "size_t": "size"}
 # A member or a parameter. Its kind is u8, u32, u64, i32, size, char, void or the name of a struct. If it is a pointer
 # to that, `pointer` is * or const *, else it is empty.

@@ -9,11 +9,11 @@ An operator is followed as a name is, also if only the arrows of a `do` use it. 
 kit's crates aren't followed. Nor are PARAMETERS, which a law describes: only the list of its whole contract has them.
 Those that are met are printed last, with their law and the numbers of lines to which it leads.
 
-    bench/trusted_lines.py [FILE FUNCTION [CLAUSE..]]     without a name: the headline, crates/dma_engine/src/run.rt run
-    bench/trusted_lines.py --write                        writes the reading lists into docs/PROOFS.md, between MARKERS:
+    tools/trusted_lines.py [FILE FUNCTION [CLAUSE..]]     without a name: the headline, crates/dma_engine/src/run.rt run
+    tools/trusted_lines.py --write                        writes the reading lists into docs/PROOFS.md, between MARKERS:
                                                           those of the headline, of its clauses, of FUNCTIONS, and of
                                                           each crate
-    bench/trusted_lines.py --check                        checks that docs/PROOFS.md has them as --write writes them;
+    tools/trusted_lines.py --check                        checks that docs/PROOFS.md has them as --write writes them;
                                                           that contracts lead to each file of specs/, apart from inner/;
                                                           that each law of PARAMETERS describes all its names; and that
                                                           each file in the list of rules of docs/ARCHITECTURE.md exists
@@ -72,7 +72,7 @@ FUNCTIONS = [
 CLAUSES = ("begins", "kept", "remembers", "memory", "sound", "views", "answers")
 # The document with the reading lists, and the lines between which they are.
 LISTS = "docs/PROOFS.md"
-MARKERS = ("<!-- written by bench/trusted_lines.py --write -->", "<!-- end of what it writes -->")
+MARKERS = ("<!-- written by tools/trusted_lines.py --write -->", "<!-- end of what it writes -->")
 WORD = re.compile(r"[A-Za-z_][\w']*")
 SPECS_IMPORT = re.compile(r"use Rattle\.((?:\w+\.)*\w+)\.\{([^}]*)\}")
 CODE_IMPORT = re.compile(r"^(?:pub )?use ((?:\w+::)*)(?:(\w+)|\{([^}]*)\});", re.M)

@@ -1,5 +1,5 @@
 //! Links the library. DMA330_LIB names the archive. Without it, links the one that a release has in this crate's folder
-//! `lib`, else this repository's, which `make -C embed library` builds, else the one that `make install` installed,
+//! `lib`, else this repository's, which `make library` builds, else the one that `make install` installed,
 //! which pkg-config finds.
 
 use std::path::{Path, PathBuf};
@@ -22,7 +22,7 @@ fn nearby() -> Option<PathBuf> {
     let variable = |name| std::env::var(name).expect("cargo names the crate's folder and the target");
     let target = format!("{}-{}", variable("CARGO_CFG_TARGET_ARCH"), variable("CARGO_CFG_TARGET_OS"));
     let here = PathBuf::from(variable("CARGO_MANIFEST_DIR"));
-    let places = [here.join("lib").join(target).join("libdma330.a"), here.join("../out/libdma330.a")];
+    let places = [here.join("lib").join(target).join("libdma330.a"), here.join("../../out/libdma330.a")];
     places.into_iter().find(|place| place.is_file())
 }
 
@@ -34,7 +34,7 @@ fn installed() -> PathBuf {
         None => fail(
             "libdma330.a is missing for this target: a release has it in this crate's folder lib, but there is none, it \
              isn't built in this repository, pkg-config finds none that is installed, and DMA330_LIB isn't set.\n\
-             To build it, run `make -C embed library` at the top of the repository, which needs the Rattle kit. \
+             To build it, run `make library` at the top of the repository, which needs the Rattle kit. \
              Or set DMA330_LIB to the path of an archive that is built elsewhere.",
         ),
     }

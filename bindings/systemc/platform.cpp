@@ -1,6 +1,6 @@
 // An example: a memory, a ROM, two DMA-330s and a driver on a bus.
 //
-//     c++ -std=c++17 -Iembed/include -Iembed/systemc embed/systemc/platform.cpp embed/out/libdma330.a -lsystemc
+//     c++ -std=c++17 -Iinclude -Ibindings/systemc bindings/systemc/platform.cpp out/libdma330.a -lsystemc
 //     ./a.out [COPIES [MOST]]                    # (-std is that with which SystemC was built)
 //
 // The driver copies 1 MiB by programs of dma330_plan, on one device and on both. It also moves the memory in the middle

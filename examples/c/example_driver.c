@@ -1,5 +1,5 @@
 /* A driver of the PL330, and its test by the kit of harness.h: whatever trouble comes, all copies must be right in the
- * end. ../harness/HARNESS.md says how to test your own driver.
+ * end. ../../harness/HARNESS.md says how to test your own driver.
  *
  *     example_driver [--seed N | --seeds A-B] [--vcd FILE]
  *

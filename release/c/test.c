@@ -1,5 +1,5 @@
 /* Checks heap.c and os.c, or the kit's objects in their place, against the contracts in rattle/libc/src/heap.rt and
- * rattle/os/src/c.rt of the Rattle kit. Link it with embed/tests/heap.c. It prints how many bytes each allocation asks
+ * rattle/os/src/c.rt of the Rattle kit. Link it with tests/c/heap.c. It prints how many bytes each allocation asks
  * for, and what is returned for each argument; the last line is 'N passed, M failed'. */
 #include "heap.h"
 

@@ -1,7 +1,7 @@
 #!/bin/sh
 # Installs what is built, or removes it again; proves and builds nothing anew: install.sh install|uninstall [library]
 #
-# `make install` calls it at the top, and here with the word library, which leaves out the programs. PREFIX is an
+# `make install` calls it, and `make install-library` with the word library, which leaves out the programs. PREFIX is an
 # absolute path; DESTDIR is put in front of it. LIB may name the library's archive, PROGRAMS the folder of the programs,
 # and TARGET what they are for, such as x86_64-linux. AS_BUILT=1 installs what was built before a source changed.
 # Nothing is written outside DESTDIR and PREFIX, so the tree may be one that can't be written. No installed file has
@@ -10,11 +10,12 @@ set -eu
 # (what is installed is for all users, whatever the umask)
 umask 022
 here=$(cd "$(dirname "$0")" && pwd)
-top=$(dirname "$here")
+top=$(cd "$here/../.." && pwd)
+pages=$top/tools/pages
 what=$1
 only=${2:-}
 to=${DESTDIR:-}$PREFIX
-version=$(sed -n 's/^#define DMA330_VERSION_[MP][A-Z]* //p' "$here/include/dma330.h" | paste -s -d .)
+version=$(sed -n 's/^#define DMA330_VERSION_[MP][A-Z]* //p' "$top/include/dma330.h" | paste -s -d .)
 major=${version%%.*}
 share=share/dma330
 # (the folder of the crate in Rust that has the archive, by the names that cargo has for processor and system)
@@ -81,7 +82,7 @@ find_archive() {
     archive=${LIB:-}
     [ -z "$archive" ] || return 0
     proved=$top/crates/dma_ffi/out/libdma_ffi.a
-    archive=$here/out/libdma330.a
+    archive=$top/out/libdma330.a
     if is_current dma_ffi "$proved"; then
         kit=$(rt doc 2>/dev/null) && kit=${kit%/START-HERE.md} || kit=
         [ -n "$kit" ] || [ -f "$archive" ] ||
@@ -97,13 +98,13 @@ find_archive() {
 
 # put_page NAME SECTION 'DOCUMENT ..' ABOUT: installs documents as one manual page
 put_page() {
-    (cd "$top/docs" && awk -v name="$1" -v section="$2" -v about="$4" -v version="$version" -f "$here/doc/roff.awk" \
-        -f "$here/doc/document.awk" $(printf '%s.md ' $3)) >"$room/page"
+    (cd "$top/docs" && awk -v name="$1" -v section="$2" -v about="$4" -v version="$version" -f "$pages/roff.awk" \
+        -f "$pages/document.awk" $(printf '%s.md ' $3)) >"$room/page"
     put 644 "$room/page" "share/man/man$2/$1.$2"
 }
 
 install_library() {
-    put_into include "$here"/include/*.h
+    put_into include "$top"/include/*.h
     put 644 "$archive" lib/libdma330.a
     # (without a build id, which is a digest of the linker's version too)
     if ${CC:-cc} -shared -s -o "$room/shared" -Wl,--whole-archive "$archive" -Wl,--no-whole-archive -Wl,-z,defs \
@@ -119,26 +120,24 @@ install_library() {
     fill_in dma330-config.cmake.in lib/cmake/dma330/dma330-config.cmake
     fill_in dma330-config-version.cmake.in lib/cmake/dma330/dma330-config-version.cmake
     mkdir "$room/calls"
-    awk -v version="$version" -v folder="$room/calls" -f "$here/doc/roff.awk" -f "$here/doc/page.awk" \
-        "$here/include/dma330.h" >"$room/dma330.3"
+    awk -v version="$version" -v folder="$room/calls" -f "$pages/roff.awk" -f "$pages/page.awk" \
+        "$top/include/dma330.h" >"$room/dma330.3"
     put_into share/man/man3 "$room/dma330.3" "$room"/calls/*
     put_page dma330 7 'DEVICES CONTROLLERS EXPLANATIONS' 'how to use a software DMA controller in an emulator'
 }
 
 # install_share: installs documents, examples, and what has the library's calls in other languages, in folders named as
-# in this tree. In the place of embed/include and embed/out there are links: the crate in Rust has the archive in its
-# own folder, as a package of it has.
+# in this tree. In the place of include and out there are links: the crate in Rust has the archive in its own folder, as
+# a package of it has.
 install_share() {
     put_into $share "$top/README.md" "$top/CHANGES.md" "$top/CONTRIBUTING.md" "$top/SECURITY.md"
-    for it in docs examples; do
-        put_into "$share/$it" "$top/$it"/*.*
+    put_into $share/docs "$top"/docs/*.*
+    for it in examples harness qemu bindings/rust bindings/python bindings/systemc; do
+        [ ! -d "$top/$it" ] || put_tree "$it"
     done
-    for it in harness examples rust qemu python systemc; do
-        [ ! -d "$here/$it" ] || put_tree "embed/$it"
-    done
-    link_to ../../../include $share/embed/include
-    link_to ../../../lib $share/embed/lib
-    link_to ../../../lib/libdma330.a "$share/embed/rust/lib/$target/libdma330.a"
+    link_to ../../include $share/include
+    link_to ../../lib $share/lib
+    link_to ../../../../lib/libdma330.a "$share/bindings/rust/lib/$target/libdma330.a"
 }
 
 # program PROGRAM: prints the path of a program
@@ -179,7 +178,7 @@ uninstall() {
     for it in $programs; do
         rm -f "$to/bin/$it" "$to/share/man/man1/$it.1" "$to/share/man/man5/$it.5"
     done
-    for it in "$here"/include/*.h; do
+    for it in "$top"/include/*.h; do
         rm -f "$to/include/$(basename "$it")"
     done
     rm -f "$to/lib/libdma330.a" "$to/lib/libdma330.so" "$to/lib/libdma330.so.$major" \

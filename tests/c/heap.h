@@ -1,6 +1,6 @@
 /* malloc, realloc and free, of which the first two fail when the program says so. Link a program that calls the library
- * with heap.c and -Wl,--wrap=malloc,--wrap=realloc,--wrap=free; tests/refuse_calls and tests/refuse_memory preload heap.c,
- * compiled with -DPRELOADED, into programs that are already built. */
+ * with heap.c and -Wl,--wrap=malloc,--wrap=realloc,--wrap=free; tests/test_refuse_calls and tests/test_refuse_memory
+ * preload heap.c, compiled with -DPRELOADED, into programs that are already built. */
 #ifndef HEAP_H
 #define HEAP_H
 

@@ -1,4 +1,4 @@
-/* A driver of another design than ../examples/example_driver.c, which the kit must accept: more copies than
+/* A driver of another design than examples/c/example_driver.c, which the kit must accept: more copies than
  * channels, in chunks of 4,000 bytes; events from a pool, which are interrupts only while they are in use; one event in
  * a call of the handler; after a fault all channels begin anew. The processor copies up to 8 bytes, and the last burst
  * of a chunk may store some bytes again. wrong_drivers.sh tries it. */

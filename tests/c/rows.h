@@ -1,4 +1,4 @@
-/* The groups of rows.txt and of channels.txt, and the calls that ../../tests/rows --plain prints. */
+/* The groups of rows.txt and of channels.txt, and the calls that tests/test_rows --plain prints. */
 #ifndef ROWS_H
 #define ROWS_H
 

@@ -51,7 +51,7 @@ printed() {
     fi
 }
 
-for list in tests/wrong_drivers.txt tests/planted_drivers.txt; do
+for list in tests/c/wrong_drivers.txt tests/c/planted_drivers.txt; do
     while IFS= read -r line; do
         case "$line" in
             "driver: "*) driver=${line#driver: } ;;

@@ -1,23 +1,23 @@
-# The part of check.sh that compares the library with its earlier versions: it looks for all that their headers
-# declared, and runs two programs that are compiled with the header of 1.2.0. tests/abi has a list for each version that
-# is compared, which tests/abi/list has made.
+# The part of test_library that compares the library with its earlier versions: it looks for all that their headers
+# declared, and runs two programs that are compiled with the header of 1.2.0. tests/c/abi has a list for each version
+# that is compared, which tests/c/abi/list has made.
 
 abi=$full/abi
 
 # abi_kept VERSION: counts what an earlier version had and this one has
 abi_kept() {
-    awk -v version="$1" -f tests/abi/compare.awk ../CHANGES.md "$abi/archive" "$abi/shared" "$abi/today.txt" \
-        "tests/abi/$1.txt"
+    awk -v version="$1" -f tests/c/abi/compare.awk CHANGES.md "$abi/archive" "$abi/shared" "$abi/today.txt" \
+        "tests/c/abi/$1.txt"
 }
 
 # abi_lists: makes the list of today's headers and those of the names that archive and shared library export; succeeds
 # if the list of 1.2.0 is again that of its header
 abi_lists() {
-    make --no-print-directory install LIB="$LIB" DESTDIR= PREFIX="$abi" &&
+    make --no-print-directory install-library LIB="$LIB" DESTDIR= PREFIX="$abi" &&
         nm -g --defined-only "$LIB" | awk 'NF == 3 {print $3}' >"$abi/archive" &&
         nm -D --defined-only "$abi/lib/libdma330.so" | awk '{print $3}' >"$abi/shared" &&
-        tests/abi/list include >"$abi/today.txt" && tests/abi/list tests/abi/1.2.0 >"$abi/1.2.0.txt" || return 1
-    grep -v -e '^#' -e '^changed: ' -e '^now ' tests/abi/1.2.0.txt | diff - "$abi/1.2.0.txt"
+        tests/c/abi/list include >"$abi/today.txt" && tests/c/abi/list tests/c/abi/1.2.0 >"$abi/1.2.0.txt" || return 1
+    grep -v -e '^#' -e '^changed: ' -e '^now ' tests/c/abi/1.2.0.txt | diff - "$abi/1.2.0.txt"
 }
 
 # prints FILE PROGRAM: succeeds if a program prints the text of a file
@@ -30,8 +30,8 @@ prints() {
 printed_then() {
     library=$1
     shift
-    old=tests/abi/1.2.0
-    for it in examples/example "$old/example_driver $old/harness"; do
+    old=tests/c/abi/1.2.0
+    for it in examples/c/example "$old/example_driver $old/harness"; do
         then=${it%% *}
         make_it "${then##*/}.c of 1.2.0, $library" $CC -std=c99 -O2 -Wall -Wextra -I$old -o "$abi/program" \
             $(printf '%s.c ' $it) "$@" && try "${then##*/}.c of 1.2.0, $library" prints "$then.txt" "$abi/program"
@@ -41,7 +41,7 @@ printed_then() {
 if has make && has nm; then
     mkdir -p "$abi"
     try "lists of what headers and libraries have" abi_lists
-    for it in tests/abi/*.txt; do
+    for it in tests/c/abi/*.txt; do
         it=$(basename "$it" .txt)
         count "what $it had" "$last_line" abi_kept "$it"
     done

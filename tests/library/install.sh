@@ -1,10 +1,10 @@
-# The part of check.sh that tests what `make install` installs.
+# The part of test_library that tests what `make install` installs.
 
 prefix=$full/prefix
 
 # install_in WORD..: calls `make install` with this archive
 install_in() {
-    make --no-print-directory install LIB="$LIB" "$@"
+    make --no-print-directory install-library LIB="$LIB" "$@"
 }
 
 # flags PREFIX: prints the flags in the dma330.pc that is installed there, with pkg-config if there is one
@@ -63,7 +63,7 @@ pages() {
 
 # uninstalled: succeeds if `make uninstall` leaves no file
 uninstalled() {
-    make --no-print-directory uninstall DESTDIR= PREFIX="$prefix" && [ -z "$(find "$prefix" ! -type d)" ]
+    make --no-print-directory uninstall-library DESTDIR= PREFIX="$prefix" && [ -z "$(find "$prefix" ! -type d)" ]
 }
 
 # staged: succeeds if DESTDIR is put in front of the paths of the installed files, all users can read them whatever the

@@ -1,9 +1,10 @@
-# The part of check.sh that tests the module for Python (python/), over a shared library made of this archive.
+# The part of test_library that tests the module for Python (bindings/python/), over a shared library made of this
+# archive.
 
 # shared_library FILE: links the archive as a shared library, as install.sh does
 shared_library() {
-    $CC -shared -o "$1" -Wl,--whole-archive "$LIB" -Wl,--no-whole-archive -Wl,-z,defs -Wl,--version-script=dma330.map \
-        -Wl,-soname,libdma330.so.1
+    $CC -shared -o "$1" -Wl,--whole-archive "$LIB" -Wl,--no-whole-archive -Wl,-z,defs \
+        -Wl,--version-script=release/install/dma330.map -Wl,-soname,libdma330.so.1
 }
 
 # is_for_python FILE: succeeds if a library is for the processor of python3
@@ -21,7 +22,8 @@ in_python() {
         echo "python3 is for another processor than the library: the tests of the module for Python are left out"
         return
     fi
-    count "Python" "$last_line" env "DMA330_SO=$full/libdma330.so.1" PYTHONDONTWRITEBYTECODE=1 python3 python/tests
+    count "Python" "$last_line" env "DMA330_SO=$full/libdma330.so.1" PYTHONDONTWRITEBYTECODE=1 \
+        python3 bindings/python/tests
     grep ' left out$' "$out/log"
 }
 

@@ -3,7 +3,7 @@
 # calls it with the cargo to use (CARGO). If a command is missing, its pages are left out, and a line says so. The last
 # line is 'N passed, M failed'.
 set -u
-cd "$(dirname "$0")" || exit 2
+cd "$(dirname "$0")/../.." || exit 2
 mkdir -p out/doc
 rust=$PWD/out/doc/rust
 passed=0
@@ -15,7 +15,7 @@ build() {
     shift
     if "$@" >out/doc/log 2>&1 && [ -f "out/$page" ]; then
         passed=$((passed + 1))
-        echo "embed/out/$page"
+        echo "out/$page"
     else
         failed=$((failed + 1))
         cat out/doc/log
@@ -30,17 +30,17 @@ rustdoc() {
 # header: builds the pages of dma330.h
 header() {
     rm -rf out/doc/c
-    (cd doc && doxygen Doxyfile)
+    (cd tools/pages && doxygen Doxyfile)
 }
 
 if ! command -v "${CARGO:-cargo}" >/dev/null 2>&1; then
     echo "there is no cargo: the pages of the Rust crates are left out"
 else
-    build doc/rust/doc/dma330/index.html rustdoc rust
+    build doc/rust/doc/dma330/index.html rustdoc bindings/rust
     if ls -d /usr/share/cargo/registry/vm-memory-0.10.* >/dev/null 2>&1; then
-        build doc/rust/doc/dma330_vm_memory/index.html rustdoc rust/vm-memory
+        build doc/rust/doc/dma330_vm_memory/index.html rustdoc bindings/rust/vm-memory
     else
-        echo "there is no librust-vm-memory-dev 0.10: the page of rust/vm-memory is left out"
+        echo "there is no librust-vm-memory-dev 0.10: the page of bindings/rust/vm-memory is left out"
     fi
 fi
 if command -v doxygen >/dev/null 2>&1; then

@@ -6,7 +6,7 @@ import shutil
 import sys
 import tempfile
 
-TOP = os.path.dirname(os.path.dirname(os.path.realpath(__file__)))
+TOP = os.path.realpath(os.path.join(os.path.dirname(os.path.realpath(__file__)), "../.."))
 SOURCES = ["src", "specs", "proofs"]
 
 

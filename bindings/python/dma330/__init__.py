@@ -32,7 +32,7 @@ yours: each thread has 32 KiB of stack, and while a call runs, nobody else write
 writes. Python's other threads run during a call.
 
 The library is the file that DMA330_SO names, else libdma330.so.1 beside the module (as in a wheel), in ../lib or
-../../lib seen from there, or where the loader finds it. It must have this version or a later one of the same MAJOR.
+../../../lib seen from there, or where the loader finds it. It must have this version or a later one of the same MAJOR.
 """
 from . import errors, values
 from ._library import VERSION as __version__

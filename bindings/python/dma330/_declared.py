@@ -1,4 +1,4 @@
-"""What dma330.h declares, as three tables. `embed/declarations` writes this file: change the header, not the file.
+"""What dma330.h declares, as three tables. `tools/declarations` writes this file: change the header, not the file.
 
 A type is `u8`, `u32`, `u64`, `i32` or `size` for a number, the name of a struct, or one of these, `char` or `void`
 after a `*`, for a pointer.

@@ -1,8 +1,8 @@
 #!/usr/bin/env python3
 """A walk from the dump of a driver's program to its addresses over time: addresses.py DUMP [PICTURE.svg] [--bus BITS]
 
-DUMP is a text of pairs of hexadecimal digits, with comments after #, as in examples/linux.hex. The addresses after each
-instruction are printed, or drawn with matplotlib (Debian's python3-matplotlib).
+DUMP is a text of pairs of hexadecimal digits, with comments after #, as in examples/scripts/linux.hex. The addresses
+after each instruction are printed, or drawn with matplotlib (Debian's python3-matplotlib).
 """
 import argparse
 import re

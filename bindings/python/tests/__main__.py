@@ -1,4 +1,4 @@
-"""Runs the tests of the module: python3 embed/python/tests [WORD ..], those whose names have one of the words.
+"""Runs the tests of the module: python3 bindings/python/tests [WORD ..], those whose names have one of the words.
 
 DMA330_SO names the library. The last line is 'N passed, M failed'. A test whose tool is missing is left out, and a line
 says so.

@@ -9,7 +9,7 @@ import unittest
 import dma330
 from dma330 import _library, errors, values
 
-sys.path.append(str(pathlib.Path(__file__).resolve().parents[2]))
+sys.path.append(str(pathlib.Path(__file__).resolve().parents[3] / "tools"))
 
 import header
 

@@ -13,7 +13,7 @@ import dma330
 
 HERE = os.path.dirname(os.path.realpath(__file__))
 EXAMPLE = os.path.join(HERE, "../examples/addresses.py")
-DUMPS = os.path.join(HERE, "../../../examples")
+DUMPS = os.path.join(HERE, "../../../examples/scripts")
 try:
     import matplotlib
 except ImportError:
@@ -29,7 +29,7 @@ def run(*words):
 
 class Examples(unittest.TestCase):
     def test_numbers(self):
-        """examples/linux.hex: 4 instructions, 8 times a burst of 128 bytes and DMALPEND, one of 40, DMASEV, DMAEND."""
+        """linux.hex: 4 instructions, 8 times a burst of 128 bytes and DMALPEND, one of 40, DMASEV, DMAEND."""
         src, dst = 0x10000000, 0x10001000
         rows = [(0, 0), (src, 0), (src, dst), (src, dst)]
         for n in range(8):
@@ -40,7 +40,7 @@ class Examples(unittest.TestCase):
         self.assertEqual((status, printed.split("\n")[:-1]), (0, wanted))
 
     def test_an_event(self):
-        """examples/handshake.hex: DMAWFE, 3 DMAMOVs, a burst of 16 bytes, DMASEV, DMAEND."""
+        """handshake.hex: DMAWFE, 3 DMAMOVs, a burst of 16 bytes, DMASEV, DMAEND."""
         src, dst = 0x10000000, 0x10001000
         rows = [(0, 0), (0, 0), (src, 0), (src, dst), (src + 16, dst), *[(src + 16, dst + 16)] * 3]
         wanted = ["%5d SAR 0x%08X DAR 0x%08X" % (n + 1, *row) for n, row in enumerate(rows)]

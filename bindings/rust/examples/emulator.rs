@@ -1,5 +1,5 @@
 //! A copy from submit to finish, and then a device in the loop of an emulator: a guest's register writes submit copies,
-//! the main loop steps them, and the guest polls for completion. It prints the text of ../../examples/example.txt, as the
+//! the main loop steps them, and the guest polls for completion. It prints the text of examples/c/example.txt, as the
 //! example in C does.
 
 use dma330::{Controller, Error, Events, Segment, Status, TransferResult, Turn};

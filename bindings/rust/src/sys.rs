@@ -1,4 +1,4 @@
-//! What dma330.h declares. `embed/declarations` writes this file: change the header, not the file.
+//! What dma330.h declares. `tools/declarations` writes this file: change the header, not the file.
 
 use crate::{AssemblyFault, Cause, DisassemblyFault, Error, Fault, HappeningKind, MarkKind};
 use crate::{Region, Repeated, Segment, Status, TransferResult};

@@ -6,7 +6,7 @@ mod words;
 use dma330::{assemble, Channel, ChannelSteps, ChannelTurn, Error, MarkKind, Region, Segment};
 use words::{answer, groups, hex, lower, nothing, Words};
 
-const ROWS: &str = include_str!("../../tests/channels.txt");
+const ROWS: &str = include_str!("../../../tests/c/channels.txt");
 
 #[derive(Clone, Copy, PartialEq)]
 enum Way {

@@ -1,4 +1,4 @@
-//! Tests of `Device`: embed/tests has the tests of its registers. Here are those of the crate's own code: each call
+//! Tests of `Device`: tests/c has the tests of its registers. Here are those of the crate's own code: each call
 //! gives what the library's does.
 
 use dma330::{assemble, BusWidth, Device, DeviceConfig, DeviceRows, DeviceTurn, Error, Region, Revision, Segment};

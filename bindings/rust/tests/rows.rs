@@ -7,7 +7,7 @@ use dma330::{AssemblyFault, Bus, Controller, DisassemblyFault, Error, Explanatio
 use std::process::Command;
 use words::{answer, groups, hex, lower, name, nothing, small, Transfer, Words};
 
-const ROWS: &str = include_str!("../../tests/rows.txt");
+const ROWS: &str = include_str!("../../../tests/c/rows.txt");
 const RAM: usize = 1 << 16;
 // The most steps to take that change nothing.
 const IDLE: u32 = 100;
@@ -285,7 +285,7 @@ struct Call {
 }
 
 impl Call {
-    // Reads the lines of a call, as tests/rows --plain prints them, without the `$ ` at the beginning.
+    // Reads the lines of a call, as tests/test_rows --plain prints them, without the `$ ` at the beginning.
     fn new(lines: &str) -> Call {
         let (words, lines) = lines.split_once('\n').unwrap_or((lines, ""));
         let mut call = Call { words: words.to_string(), input: String::new(), output: String::new() };
@@ -362,7 +362,7 @@ fn plan_lines(text: &str) -> String {
 
 #[test]
 fn every_call_of_dmasim_prints_what_it_should() {
-    let command = concat!(env!("CARGO_MANIFEST_DIR"), "/../../tests/rows");
+    let command = concat!(env!("CARGO_MANIFEST_DIR"), "/../../tests/test_rows");
     let printed = Command::new(command).arg("--plain").output().expect("it runs").stdout;
     let text = String::from_utf8_lossy(&printed);
     let calls: Vec<Call> = text.strip_prefix("$ ").expect("a call").split("\n$ ").map(Call::new).collect();

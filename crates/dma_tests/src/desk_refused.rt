@@ -1,6 +1,6 @@
 //! Calls on a desk that run out of memory and are then made again, and what a reader without a ticket sees then.
-//! `tests/refuse_calls` lets each allocation of this test fail in turn; each row must be out of memory in some run.
-//! That a call that is out of memory changes nothing is in its contract.
+//! `tests/test_refuse_calls` lets each allocation of this test fail in turn; each row must be out of memory in some
+//! run. That a call that is out of memory changes nothing is in its contract.
 
 ghost use Rattle.dma_work.specs.Desk.{Names};
 

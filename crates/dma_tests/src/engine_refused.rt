@@ -1,5 +1,5 @@
 //! Calls that C can't make, which run out of memory and are then made again: those that copy bytes or a transfer, lists
-//! of calls, and those that make room. `tests/refuse_calls` lets each allocation of this test
+//! of calls, and those that make room. `tests/test_refuse_calls` lets each allocation of this test
 //! fail in turn; each row must be out of memory in some run. That a call that is out of memory changes nothing is in
 //! its contract.
 

@@ -1,6 +1,6 @@
 //! A program that runs out of memory where a store makes a page, and is then run again, and pages that are made at the
-//! second call. `tests/refuse_calls` lets each allocation of a test fail in turn; each row must be out of memory in some
-//! run. That the first run does no more than its instructions do is in its contract.
+//! second call. `tests/test_refuse_calls` lets each allocation of a test fail in turn; each row must be out of memory
+//! in some run. That the first run does no more than its instructions do is in its contract.
 
 use dma_chan::run::{RunEnd, RunFault, run_program};
 use dma_mem::memory::{MemFault, Memory};

@@ -1,6 +1,6 @@
 //! Calls that make a transfer, a set of addresses or a program, which run out of memory and are then made again.
-//! `tests/refuse_calls` lets each allocation of this test fail in turn; each row must be out of memory in some run. The
-//! second call returns what the first would have returned.
+//! `tests/test_refuse_calls` lets each allocation of this test fail in turn; each row must be out of memory in some
+//! run. The second call returns what the first would have returned.
 
 ghost use Rattle.std.specs.Prelude.{◌≡◌};
 

@@ -1,5 +1,5 @@
-//! Workers that run out of memory before they begin, and then begin. `tests/refuse_calls` lets each allocation of this
-//! test fail in turn; the row must be out of memory in some run.
+//! Workers that run out of memory before they begin, and then begin. `tests/test_refuse_calls` lets each allocation of
+//! this test fail in turn; the row must be out of memory in some run.
 
 use crate::workers::two_copies;
 use dma_engine::Status;

@@ -1,5 +1,5 @@
 //! Tests of `LentMemory`: what it lends of a guest's memory, and what it marks as dirty. What devices and channels do
-//! with lent memory is tested by embed/tests and by the crate `dma330`.
+//! with lent memory is tested by tests/c and by the crate `dma330`.
 
 use dma330::{assemble, BusWidth, Channel, ChannelTurn, Device, DeviceConfig, Error, Fault, Revision, Segment};
 use dma330_vm_memory::LentMemory;
