@@ -109,7 +109,7 @@ const BUS: Argument = Argument {
 static DIS: Usage = Usage {
     name: "dis",
     about: "Prints a program's instructions in the manual's syntax, with addresses and bytes",
-    example: "Example:\n  dma330 dis --hex --at 0x3000 examples/linux.hex",
+    example: "Example:\n  dma330 dis --hex --at 0x3000 examples/scripts/linux.hex",
     arguments: &[
         Argument {
             name: "at",
@@ -127,7 +127,7 @@ static DIS: Usage = Usage {
 static ASM: Usage = Usage {
     name: "asm",
     about: "Assembles a program from the manual's syntax",
-    example: "Example:\n  dma330 asm -o program.bin examples/nested.dmas",
+    example: "Example:\n  dma330 asm -o program.bin examples/scripts/nested.dmas",
     arguments: &[
         Argument {
             name: "output",
@@ -142,7 +142,7 @@ static ASM: Usage = Usage {
 static EXPLAIN: Usage = Usage {
     name: "explain",
     about: "Prints what a program copies and sets to 0, or the first thing that is wrong with it",
-    example: "Example:\n  dma330 explain --hex --bus 64 examples/linux.hex",
+    example: "Example:\n  dma330 explain --hex --bus 64 examples/scripts/linux.hex",
     arguments: &[
         HEX,
         WORDS,
@@ -168,7 +168,7 @@ static TRACE: Usage = Usage {
     name: "trace",
     about: "Executes a program over RAM, and prints a line for each instruction",
     example: "Example:\n  dma330 trace --hex --ram 0x10000000+0x2000 --quiet \
-        --dump 0x10001000+16 examples/linux.hex",
+        --dump 0x10001000+16 examples/scripts/linux.hex",
     arguments: &[
         HEX,
         WORDS,
@@ -235,8 +235,8 @@ static RACE: Usage = Usage {
     name: "race",
     about: "Executes a script of dmasim race in one thread, with its turns in the order of a seed",
     example: "A line `expect TEXT` of the script compares TEXT with a line that the race prints.\n\n\
-        Examples:\n  dma330 race --seed 7 --script seven.dma examples/race.dma\n  \
-        dmasim run < seven.dma\n  dma330 race --seeds 0-999 examples/conflict.dma",
+        Examples:\n  dma330 race --seed 7 --script seven.dma examples/scripts/race.dma\n  \
+        dmasim run < seven.dma\n  dma330 race --seeds 0-999 examples/scripts/conflict.dma",
     arguments: &[
         Argument {
             name: "seed",
@@ -263,7 +263,7 @@ static RACE: Usage = Usage {
 static WHY: Usage = Usage {
     name: "why",
     about: "Executes a script of dmasim run, and prints why each channel is where it is",
-    example: "Example:\n  dma330 why examples/circle.dma",
+    example: "Example:\n  dma330 why examples/scripts/circle.dma",
     arguments: &[SCRIPT],
 };
 
