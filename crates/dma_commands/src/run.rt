@@ -146,10 +146,18 @@ impl CallList {
             out.old.items out.new.items) }
     {
         match line {
-            Statement::Call(call) => self.take_call(engine, call, out),
+            Statement::Call(call) => {
+                let call = call.into_call(*out.allocator())?;
+                self.take_call(engine, call, out)
+            }
             Statement::Step { ch, count } => self.take_steps(engine, ch, count, out),
-            Statement::Submit { ch, transfer } => self.take_submit(engine, ch, transfer, out),
-            Statement::Copy(transfer) => self.take_copy(engine, transfer, out),
+            Statement::Submit { ch, transfer } => self.take_submit(
+                engine,
+                ch,
+                transfer.into_inner(),
+                out,
+            ),
+            Statement::Copy(transfer) => self.take_copy(engine, transfer.into_inner(), out),
             Statement::Totals => self.take_totals(engine, out),
         }
     }

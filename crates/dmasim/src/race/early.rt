@@ -116,6 +116,28 @@ struct LinesOnDesk<'a, N: DeskName, R: Wait> {
     reader: StatusReader,
 }
 
+impl<N: DeskName, R: Wait> LinesOnDesk<'_, N, R> {
+    /// Executes a line that makes one call.
+    fn answer_call(&mut self, call: Call, out: &mut Vec<u8>) -> Result<(), AllocError>
+        requires takes { IsEarly (Statement.Call call) }
+        requires ready { (N.log ≡ self.old.reader.log) × (N.base ≡ self.old.reader.base) }
+        ensures line { OnOk result (PrintsLine (EarlyPrints self.old.desk.engine.view
+            (Statement.Call call)) self.new.desk.engine.view out.old.items out.new.items) }
+        ensures err { OnErr result (out.new.items ≡ out.old.items) }
+        ensures ready { (N.log ≡ self.new.reader.log) × (N.base ≡ self.new.reader.base) }
+    {
+        match call {
+            Call::Terminate { ch } => {
+                answer_terminate(self.rt, &mut self.desk, &mut self.reader, ch, out)
+            }
+            Call::Status { ch, cookie } => {
+                answer_status(&self.desk, &mut self.reader, ch, cookie, out)
+            }
+            call => answer_quiet(&mut self.desk, call, out),
+        }
+    }
+}
+
 impl<N: DeskName, R: Wait> Interpreter for LinesOnDesk<'_, N, R> {
     ghost use Rattle.std.specs.Prelude.{◌≡◌};
     ghost use Rattle.dma_script.specs.Race.{IsEarly};
@@ -137,16 +159,10 @@ impl<N: DeskName, R: Wait> Interpreter for LinesOnDesk<'_, N, R> {
                 &mut self.desk,
                 &mut self.reader,
                 ch,
-                transfer,
+                transfer.into_inner(),
                 out,
             ),
-            Statement::Call(Call::Terminate { ch }) => {
-                answer_terminate(self.rt, &mut self.desk, &mut self.reader, ch, out)
-            }
-            Statement::Call(Call::Status { ch, cookie }) => {
-                answer_status(&self.desk, &mut self.reader, ch, cookie, out)
-            }
-            Statement::Call(call) => answer_quiet(&mut self.desk, call, out),
+            Statement::Call(call) => self.answer_call(call.into_call(*out.allocator())?, out),
             _ => unreachable!(),
         }
     }
