@@ -48,15 +48,15 @@ module _ {S : Type 0} (seen : S → View) where
         text = one.prints;
       }) runs.ok
 
-  -- a status line
-  pub status_ran : {A E : Type 0} (found left : S) (s status : Statement) (result : Result A E) (old new : List ℕ) → s ≡ status → seen left ≡ seen found
-      → OnOk result (PrintsLine (EarlyPrints (seen found) status) (seen found) old new)
+  -- a line whose call ran
+  pub call_ran : {A E : Type 0} (found left : S) (s ran : Statement) (result : Result A E) (old new : List ℕ) → s ≡ ran
+      → OnOk result (PrintsLine (EarlyPrints (seen found) ran) (seen left) old new)
       → OnOk result (PrintsLine (λ group x. EarlyPrints (seen found) s group (seen x)) left old new)
-  status_ran found left s status result old new is same prints =
+  call_ran found left s ran result old new is prints =
       on_ok_weaker result
-      (λ (one : PrintsLine (EarlyPrints (seen found) status) (seen found) old new). record {
+      (λ (one : PrintsLine (EarlyPrints (seen found) ran) (seen left) old new). record {
         group = one.group;
-        acted = rw (is, same) one.acted;
+        acted = rw is one.acted;
         text = one.text;
       }) prints
 
