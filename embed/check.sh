@@ -99,13 +99,11 @@ names() {
 named() {
     {
         printf '#include "dma330.h"\n#include <string.h>\n#define CHECK(is, name) if (strcmp(is, name) != 0) return 1\n'
-        printf 'int main(void)\n{\n    dma330_report r;\n    dma330_channel_report c;\n'
+        printf 'int main(void)\n{\n'
         awk '/^enum / {kind = $2} /^    DMA330_[A-Z0-9_]* = / {
             name = substr($1, 8)
             if (kind == "dma330_code") print "    CHECK(dma330_code_name(" $1 "), \"" name "\");"
-            if (kind == "dma330_turn") print "    r.turn = " $1 "; CHECK(dma330_turn_name(&r), \"" name "\");"
-            if (kind == "dma330_channel_turn")
-                print "    c.turn = " $1 "; CHECK(dma330_channel_turn_name(&c), \"" substr(name, 9) "\");"
+            if (kind == "dma330_last_step") print "    CHECK(dma330_last_step_name(" $1 "), \"" name "\");"
             if (kind == "dma330_cause") print "    CHECK(dma330_cause_name(" $1 "), \"" substr(name, 7) "\");"
             if (kind == "dma330_fault") print "    CHECK(dma330_fault_name(" $1 "), \"" name "\");"
             if (kind == "dma330_result_code") print "    CHECK(dma330_result_name(" $1 "), \"" name "\");"
@@ -113,7 +111,8 @@ named() {
             if (kind == "dma330_ftr") print "    CHECK(dma330_ftr_name(" $1 "), \"" substr(name, 5) "\");"
             if (kind == "dma330_ftrd") print "    CHECK(dma330_ftrd_name(" $1 "), \"" substr(name, 6) "\");"
         }' include/dma330.h
-        printf '    CHECK(dma330_code_name(1), "?");\n    CHECK(dma330_code_name(-63), "?");\n'
+        printf '    CHECK(dma330_code_name(1), "?");\n    CHECK(dma330_code_name(-39), "?");\n'
+        printf '    CHECK(dma330_last_step_name(12), "?");\n'
         printf '    CHECK(dma330_cause_name(6), "?");\n    CHECK(dma330_fault_name(0), "?");\n'
         printf '    CHECK(dma330_ftr_name(4), "?");\n    CHECK(dma330_csr_name(0x21F4), "WAITING_FOR_EVENT");\n'
         printf '    return 0;\n}\n'
@@ -248,7 +247,7 @@ in_c() {
     counted refuse "$rows" $lines $heap
     counted channels tests/channels.txt tests/words.c tests/rows.c $heap
     for it in device_test device_bursts device_chip device_events device_registers device_rows device_saves \
-        device_wild explaining explaining_work; do
+        device_wild explaining explaining_zeros; do
         counted $it "" tests/guest.c $heap
     done
     counted drivers "" tests/driver_*.c tests/guest.c $heap
