@@ -238,9 +238,9 @@ class Hostile(unittest.TestCase):
                 self.assertEqual(run_python("\n".join([*lines, last]), "-X", "dev", "-W", "error"), (0, ""))
 
     def test_wrong_libraries(self):
-        self.assertRaises(ImportError, _library.load, "/nowhere/libdma330.so.1", "1.6.0")
-        self.assertRaises(ImportError, _library.load, os.path.abspath(__file__), "1.6.0")
-        self.assertRaises(ImportError, _library.load, "libc.so.6", "1.6.0")
+        self.assertRaises(ImportError, _library.load, "/nowhere/libdma330.so.1", "1.0.0")
+        self.assertRaises(ImportError, _library.load, os.path.abspath(__file__), "1.0.0")
+        self.assertRaises(ImportError, _library.load, "libc.so.6", "1.0.0")
         major, minor = (int(it) for it in dma330.version().split()[1].split("."))
         path = _library._path()
         for needed in ((major + 1, 0), (major - 1, 0), (major, minor + 1)):

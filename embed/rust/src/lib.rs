@@ -475,7 +475,7 @@ impl fmt::Debug for Controller {
 /// Returns the version of the library.
 ///
 /// ```
-/// assert_eq!(dma330::version(), "dilkwafam 1.6");
+/// assert_eq!(dma330::version(), "dilkwafam 1.0");
 /// ```
 pub fn version() -> String {
     let mut out = vec![0; 64];
