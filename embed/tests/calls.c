@@ -173,7 +173,7 @@ static void print_read(answer *to, const arguments *a, const outputs *o)
 
 static void print_end(answer *to, const arguments *a, const outputs *o)
 {
-    static const char *const ends[] = {"?", "ended", "out_of_turns", "waiting", "fault "};
+    static const char *const ends[] = {"out_of_steps", "ended", "waiting", "fault "};
     (void)a;
     append(to, "%s", ends[o->end.end]);
     if (o->end.end == DMA330_END_ENDED)
