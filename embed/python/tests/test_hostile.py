@@ -19,7 +19,7 @@ from dma330 import Channel, Controller, Device, Region, _library
 from dma330 import registers as reg
 
 # An argument that a call takes, by its name.
-GOOD = {"addr": 0, "bus": 64, "channel": 0, "cookie": 1, "data": b"a", "dst": (32, 1), "event": 0, "kind": 0,
+GOOD = {"addr": 0, "bus": 64, "channel": 0, "cookie": 1, "data": b"a", "dst": (32, 1), "event": 0, "access": 0,
         "limit": 10, "lines": 1, "memory": bytearray(8), "most": 1, "offset": 0, "program": b"\0",
         "regions": (), "revision": 0, "save": b"", "signal": 0, "size": 1, "src": 0, "start": dma330.Registers(),
         "text": "", "turns": 1, "value": 0, "wait": 0, "nonsecure": False}
