@@ -10,8 +10,8 @@ from typing import Any, Iterator, List, NamedTuple, Optional
 
 __all__ = ["MAX_SEGMENTS", "MAX_BYTES", "MAX_PROGRAM", "MAX_CHANNELS", "MAX_REGIONS", "MAX_SAVE", "MAX_DEVICE_SAVE",
            "LastStep", "Result", "Status", "Access", "End", "Fault", "Known", "EventKind", "Cause", "Csr", "Ftr",
-           "Ftrd", "Segment", "Outcome", "Run", "Report", "ChannelReport", "Registers", "DeviceTurn", "DeviceRows", "RunEnd",
-           "Repeated", "Start", "Event", "Explanation"]
+           "Ftrd", "Segment", "Outcome", "Run", "Report", "ChannelReport", "Registers", "DeviceTurn", "DeviceRows",
+           "RunEnd", "Repeated", "Start", "Event", "Explanation"]
 
 MAX_SEGMENTS, MAX_BYTES, MAX_PROGRAM, MAX_CHANNELS, MAX_REGIONS = 64, 1048576, 8192, 8, 64
 MAX_SAVE, MAX_DEVICE_SAVE = 8500, 68204
