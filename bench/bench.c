@@ -82,7 +82,7 @@ static void step_all(dma330_controller *controller, uint32_t most, measured *m)
         expect(dma330_step(controller, 0, most, &report) == DMA330_OK, "a step failed");
         m->steps += report.taken;
         m->calls++;
-    } while (report.turn != DMA330_NOTHING);
+    } while (report.last != DMA330_NOTHING);
     end(m);
 }
 
@@ -102,7 +102,7 @@ static void step_small(uint32_t most, long copies, measured *m)
         expect(code == DMA330_OK, "no copy");
         expect(dma330_issue(&controller, 0, &issued) == DMA330_OK, "not issued");
         expect(dma330_step(&controller, 0, most, &report) == DMA330_OK, "a step failed");
-        expect(report.turn == DMA330_FINISHED, "not finished");
+        expect(report.last == DMA330_FINISHED, "not finished");
         m->steps += report.taken;
         m->calls++;
         if (n % KEPT == KEPT - 1)
@@ -208,8 +208,8 @@ static void step_program(dma330_channel *channel, uint32_t most, measured *m)
         expect(dma330_channel_step(channel, &region, 1, &flags, most, &report) == DMA330_OK, "a step failed");
         m->steps += report.taken;
         m->calls++;
-    } while (report.turn == DMA330_CHANNEL_MOVED);
-    expect(report.turn == DMA330_CHANNEL_ENDED, "the program did not end");
+    } while (report.last == DMA330_MOVED);
+    expect(report.last == DMA330_ENDED, "the program did not end");
 }
 
 static void run_programs(const char *shape, uint32_t burst, uint32_t most, long copies, measured *m)
@@ -282,9 +282,9 @@ static void step_rows(dma330_device *device, const dma330_region *region, uint32
     uint64_t bytes = 0;
     do {
         expect(dma330_device_step_rows(device, 0, most, region, 1, &rows) == DMA330_OK, "a step failed");
-        bytes += (uint64_t)rows.count * rows.written.len;
+        bytes += (uint64_t)rows.count * rows.turn.written.len;
         m->calls++;
-    } while (rows.can_step);
+    } while (rows.turn.can_step);
     expect(bytes == MIB / 2, "not all rows were written");
 }
 

@@ -107,8 +107,7 @@ uint64_t high_lines(void)
 {
     uint32_t irqs = 0, irq_abort = 0;
 
-    expect(dma330_device_irqs(&machine.device, &irqs) == DMA330_OK, "dma330_device_irqs failed");
-    expect(dma330_device_irq_abort(&machine.device, &irq_abort) == DMA330_OK, "dma330_device_irq_abort failed");
+    expect(dma330_device_lines(&machine.device, &irqs, &irq_abort) == DMA330_OK, "dma330_device_lines failed");
     return (uint64_t)irq_abort << 32 | irqs;
 }
 

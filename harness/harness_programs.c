@@ -10,8 +10,8 @@ enum { MOST_RANGES = 1024, MOST_INSTRUCTIONS = 16777216 };
 static struct {
     dma330_repeated src[MOST_RANGES];
     dma330_segment dst[MOST_RANGES], zeros[MOST_RANGES];
-    dma330_moment moments[MOST_RANGES];
-    dma330_work work;
+    dma330_event events[MOST_RANGES];
+    dma330_explanation explanation;
 } found;
 
 const struct program *find_program(uint32_t serial)
@@ -147,7 +147,7 @@ static void expect_places(struct program *it)
     size_t from = 0, to = 0;
     uint32_t read = 0, stored = 0, round = 0;
 
-    while (from < found.work.src_len && to < found.work.dst_len) {
+    while (from < found.explanation.src_len && to < found.explanation.dst_len) {
         const dma330_repeated *src = &found.src[from];
         const dma330_segment *dst = &found.dst[to];
         uint32_t len = src->len - read < dst->len - stored ? src->len - read : dst->len - stored;
@@ -181,28 +181,28 @@ static void note_use(struct program *it, uint32_t event, bool is_signal)
 /* Expects that the library explains a program. Some causes are left to the comparison of bytes. */
 static void explain(struct program *it)
 {
-    int32_t code = dma330_device_explain_work(&machine.device, (uint8_t)it->channel, MOST_INSTRUCTIONS, found.src,
-                                              MOST_RANGES, found.dst, MOST_RANGES, found.zeros, MOST_RANGES,
-                                              found.moments, MOST_RANGES, &found.work);
+    int32_t code = dma330_device_explain(&machine.device, (uint8_t)it->channel, MOST_INSTRUCTIONS, found.src,
+                                         MOST_RANGES, found.dst, MOST_RANGES, found.zeros, MOST_RANGES, found.events,
+                                         MOST_RANGES, &found.explanation);
 
-    it->cause = code == DMA330_UNEXPLAINED ? found.work.cause : (uint32_t)DMA330_CAUSE_NONE;
-    it->pc = found.work.pc;
-    it->at = found.work.addr;
+    it->cause = code == DMA330_UNEXPLAINED ? found.explanation.cause : (uint32_t)DMA330_CAUSE_NONE;
+    it->pc = found.explanation.pc;
+    it->at = found.explanation.addr;
     if (code == DMA330_UNEXPLAINED && it->cause != DMA330_CAUSE_STORES_TWICE &&
         it->cause != DMA330_CAUSE_STORES_SOURCE && it->cause != DMA330_CAUSE_STORES_FIXED)
         fail_at(it, it->pc, dma330_cause_name(it->cause));
     it->is_explained = code == DMA330_OK;
     if (!it->is_explained)
         return;
-    for (size_t n = 0; n < found.work.src_len; n++)
+    for (size_t n = 0; n < found.explanation.src_len; n++)
         expect_range(it, found.src[n].addr, found.src[n].len, "reads");
-    for (size_t n = 0; n < found.work.dst_len; n++)
+    for (size_t n = 0; n < found.explanation.dst_len; n++)
         expect_range(it, found.dst[n].addr, found.dst[n].len, "stores");
-    for (size_t n = 0; n < found.work.zeros_len; n++)
+    for (size_t n = 0; n < found.explanation.zeros_len; n++)
         expect_range(it, found.zeros[n].addr, found.zeros[n].len, "clears");
     expect_places(it);
-    for (size_t n = 0; n < found.work.moments_len; n++)
-        note_use(it, found.moments[n].event, found.moments[n].kind == DMA330_SIGNALS);
+    for (size_t n = 0; n < found.explanation.events_len; n++)
+        note_use(it, found.events[n].event, found.events[n].kind == DMA330_SIGNALS);
 }
 
 /* Returns whether a program is the last one of its channel, or of a running copy. */

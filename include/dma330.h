@@ -11,16 +11,17 @@
  * - No pointer is null, not even one to zero elements. Each is aligned, and has as many elements as its count says. No
  *   two pointers of a call overlap, except lists that are only read; nor do the bytes of two regions: RAM that a guest
  *   sees at two addresses is lent at one. The library keeps no pointer after a call.
- * - While a call runs, nobody else writes what its pointers point to, or reads what it writes, except a guest's running
- *   processors, which may read and write the bytes of regions: see "Beside running processors" in docs/DEVICES.md.
+ * - While a call runs, nobody else writes what its pointers point to, or reads what it writes, except a guest's
+ *   running processors, which may read and write the bytes of regions: see "Beside running processors" in
+ *   docs/DEVICES.md.
  * - 32 KiB of stack are free; the most that was measured is 28.
  * - malloc, realloc and free are one allocator. It aligns a block to each power of two up to 16 that divides its size.
  *
  * A call returns DMA330_OK, which is 0, or a negative code; dma330_status returns a state instead of DMA330_OK. A
  * call's comment lists its codes in the order in which they are tested; the first that applies is returned.
- * DMA330_NOT_OPEN comes before all others. A refused call, which returns a negative code, changes nothing and writes no
- * output, except `*place` where the code has a place, `*conflict` for DMA330_BUSY and DMA330_RUNNING, `*explanation` or
- * `*work` for DMA330_UNEXPLAINED and DMA330_BUFFER_TOO_SMALL, and a device for DMA330_BAD_SAVE.
+ * DMA330_NOT_OPEN comes before all others. A refused call, which returns a negative code, changes nothing and writes
+ * no output, except `*place` where the code has a place, `*conflict` for DMA330_BUSY and DMA330_RUNNING,
+ * `*explanation` for DMA330_UNEXPLAINED and DMA330_BUFFER_TOO_SMALL, and a device for DMA330_BAD_SAVE.
  *
  * Addresses and lengths of segments have 32 bits, channels and events 8: test a guest's number before you narrow it. A
  * list of more than 64 segments may be cut to 65, which is refused too. */
@@ -37,9 +38,9 @@ extern "C" {
 /* The version, by numbers for #if, and as dma330_version writes it. CHANGES.md has the rule: a program for this version
  * works with all later ones of the same MAJOR. */
 #define DMA330_VERSION_MAJOR 1
-#define DMA330_VERSION_MINOR 6
+#define DMA330_VERSION_MINOR 0
 #define DMA330_VERSION_PATCH 0
-#define DMA330_VERSION "dilkwafam 1.6"
+#define DMA330_VERSION "dilkwafam 1.0"
 
 /* Room for what dma330_version writes in any version. */
 #define DMA330_MAX_VERSION 32
@@ -51,12 +52,14 @@ extern "C" {
 #define DMA330_CHANNEL_INIT {0, 0}
 #define DMA330_DEVICE_INIT {0, 0}
 
+/* A program may begin with any registers: dma330_start start = DMA330_ANY_REGISTERS; (or one cleared by memset) */
+#define DMA330_ANY_REGISTERS {0, 0, 0, 0, 0, 0}
+
 /* No event to wait for, or to signal; so is each other negative number. */
 #define DMA330_NO_EVENT (-1)
 
 /* The most segments of a list, bytes of a transfer, bytes of a program, channels of a controller or device, regions of
- * the caller's memory, and bytes of a channel's and of a device's save. In version 1.2 a device's save is 4 bytes
- * shorter: compile all callers of dma330_device_save with this header. */
+ * the caller's memory, and bytes of a channel's and of a device's save. */
 #define DMA330_MAX_SEGMENTS 64
 #define DMA330_MAX_BYTES 1048576
 #define DMA330_MAX_PROGRAM 8192
@@ -105,10 +108,10 @@ typedef struct dma330_run {
     uint32_t stored; /* the number of its bytes that are stored so far */
 } dma330_run;
 
-/* What dma330_step did. A member is 0 unless its comment names the turn. */
+/* What dma330_step did. A member is 0 unless its comment names what the last step did. */
 typedef struct dma330_report {
     uint32_t taken;   /* the number of steps, the last one included, whatever it did */
-    uint32_t turn;    /* what the last one did: enum dma330_turn */
+    uint32_t last;    /* what the last one did: enum dma330_last_step */
     uint32_t channel; /* of DMA330_HELD: the channel of the conflicting transfer */
     uint32_t cookie;  /* of DMA330_STARTED and DMA330_FINISHED; of DMA330_HELD that of the conflicting transfer */
     uint32_t event;   /* of DMA330_WAITING */
@@ -117,8 +120,7 @@ typedef struct dma330_report {
 } dma330_report;
 
 /* A part of the caller's memory, whose first byte is at address `addr`. An initializer that leaves out `read_only` sets
- * it to 0; code that sets the members one by one must set it too. The struct grew with version 1.1: compile all callers
- * with this header. */
+ * it to 0; code that sets the members one by one must set it too. */
 typedef struct dma330_region {
     uint32_t addr;
     uint8_t *bytes;
@@ -132,13 +134,12 @@ typedef struct dma330_channel {
     uint8_t is_open;
 } dma330_channel;
 
-/* What dma330_channel_step did. A member is 0 unless its comment names the turn. The struct grew with version 1.1: compile all
- * callers anew with this header. */
+/* What dma330_channel_step did. A member is 0 unless its comment names what the last step did. */
 typedef struct dma330_channel_report {
     uint32_t taken; /* the number of steps, the last one included, whatever it did */
-    uint32_t turn;  /* what the last one did: enum dma330_channel_turn */
-    uint32_t event; /* of DMA330_CHANNEL_SIGNALLED: whose flag it set; of DMA330_CHANNEL_WAITING: the one it waits for */
-    uint32_t fault; /* of DMA330_CHANNEL_FAULT: enum dma330_fault */
+    uint32_t last;  /* what the last one did: enum dma330_last_step */
+    uint32_t event; /* of DMA330_SIGNALLED: whose flag it set; of DMA330_WAITING: the one it waits for */
+    uint32_t fault; /* of DMA330_FAULT: enum dma330_fault */
     uint32_t pc;    /* the offset of the next instruction: of WAITING and FAULT that of the one that waits or failed, of
                      * ENDED that of the DMAEND */
     dma330_segment written; /* the range that the steps wrote: each byte in it, some perhaps with the value that it had;
@@ -179,26 +180,25 @@ typedef struct dma330_device_turn {
     dma330_segment written; /* its steps wrote each byte of this range, some perhaps with the value that it had; no byte
                              * elsewhere has changed. Its len is 0 if they wrote nothing. It may end at 2^32, so add
                              * addr and len in 64 bits */
+    uint64_t taken;         /* the number of steps, the last one included, whatever it did: at most `most`, and one more
+                             * after the DMASEV of an interrupt */
     uint32_t lines_changed; /* 1 if a line of irq[31:0], or irq_abort, has changed, else 0 */
     uint32_t can_step;      /* what dma330_device_can_step writes now */
 } dma330_device_turn;
 
 /* What dma330_device_step_rows did. No byte outside the ranges of its turns has changed. */
 typedef struct dma330_device_rows {
-    dma330_segment written; /* what the first turn wrote, as in a dma330_device_turn: its len may be 0 */
-    uint32_t pitch;         /* turn k, counted from 0, wrote written.len bytes from written.addr + k * pitch on */
-    uint32_t count;         /* the number of turns, at least 1 */
-    uint32_t steps;         /* each turn is what dma330_device_step does with this `most` */
-    uint32_t lines_changed; /* 1 if a line of irq[31:0], or irq_abort, has changed, else 0 */
-    uint32_t can_step;      /* what dma330_device_can_step writes now */
-    uint64_t taken;         /* the number of steps that each turn took, the last one included, whatever it did: at most
-                             * `steps`, and one more after the DMASEV of an interrupt */
+    dma330_device_turn turn; /* `written` is what the first turn wrote, `taken` the number of steps of each turn;
+                              * `lines_changed` and `can_step` are of all turns together */
+    uint32_t pitch;          /* turn k, counted from 0, wrote as many bytes from turn.written.addr + k * pitch on */
+    uint32_t count;          /* the number of turns, at least 1 */
+    uint32_t steps;          /* each turn is what dma330_device_step does with this `most` */
 } dma330_device_rows;
 
 /* How a program that ran alone ended. A member is 0 unless its comment names the end. */
 typedef struct dma330_run_end {
     uint32_t end;   /* enum dma330_end */
-    uint32_t turns; /* of DMA330_END_ENDED: the number of executed instructions, DMAEND included */
+    uint32_t steps; /* of DMA330_END_ENDED: the number of executed instructions, DMAEND included */
     uint32_t event; /* of DMA330_END_WAITING */
     uint32_t fault; /* of DMA330_END_FAULT: enum dma330_fault */
     uint32_t pc;    /* of DMA330_END_FAULT: the offset of the instruction */
@@ -213,87 +213,76 @@ typedef struct dma330_repeated {
     uint32_t times;
 } dma330_repeated;
 
+/* The registers with which a program begins, as far as they are known. The others may be anything: a device keeps its
+ * registers over a DMAGO, so another program may have left anything there. */
+typedef struct dma330_start {
+    uint32_t known; /* those of the members below that are known: a sum of enum dma330_known. The others aren't read */
+    uint32_t sar;
+    uint32_t dar;
+    uint32_t ccr;
+    uint8_t lc0;
+    uint8_t lc1;
+} dma330_start;
+
 /* A DMAWFE or a DMASEV that a program executes. */
-typedef struct dma330_happening {
-    uint32_t kind;   /* enum dma330_happening_kind */
+typedef struct dma330_event {
+    uint32_t kind;    /* enum dma330_event_kind */
     uint32_t event;
-    uint64_t stored; /* the number of bytes that the program has stored before it */
-} dma330_happening;
+    uint64_t copied;  /* the number of bytes that the program has copied before it */
+    uint64_t cleared; /* and of those that it has set to 0 */
+} dma330_event;
 
-/* What a program copies, or why it isn't explained. */
+/* What a program copies and sets to 0, or why it isn't explained. */
 typedef struct dma330_explanation {
-    size_t src_len;        /* the numbers of items of the three lists, each 0 if there is a cause */
-    size_t dst_len;
-    size_t happenings_len;
-    uint64_t size;         /* the number of bytes that it copies, 0 if there is a cause */
-    uint32_t steps;        /* the number of instructions executed, DMAEND included; for a cause, of those before `pc` */
-    uint32_t pc;           /* for a cause the offset of the instruction that has it (0 for STORES_ZEROS), else 0 */
-    uint32_t cause;        /* enum dma330_cause */
-} dma330_explanation;
-
-/* A DMAWFE or a DMASEV that a program executes, as dma330_explain_work writes it. Since 1.6.0. */
-typedef struct dma330_moment {
-    uint32_t kind;    /* enum dma330_happening_kind */
-    uint32_t event;
-    uint64_t copied;  /* the numbers of bytes that the program has copied, and set to 0, before it */
-    uint64_t cleared;
-} dma330_moment;
-
-/* What a program copies and sets to 0, or why it isn't explained. Since 1.6.0. */
-typedef struct dma330_work {
-    size_t src_len;     /* the numbers of items of the four lists, each 0 if there is a cause */
+    size_t src_len;    /* the numbers of items of the four lists, each 0 if there is a cause */
     size_t dst_len;
     size_t zeros_len;
-    size_t moments_len;
-    uint64_t copied;    /* the numbers of bytes that it copies, and sets to 0; 0 if there is a cause */
+    size_t events_len;
+    uint64_t copied;   /* the numbers of bytes that it copies, and sets to 0; 0 if there is a cause */
     uint64_t cleared;
-    uint32_t steps;     /* as in dma330_explanation */
-    uint32_t pc;
-    uint32_t cause;     /* enum dma330_cause, never DMA330_CAUSE_STORES_ZEROS */
-    uint32_t addr;      /* for STORES_TWICE the lowest address that is stored twice, for STORES_SOURCE the lowest that is
-                         * read and stored, else 0 */
-} dma330_work;
+    uint32_t steps;    /* the number of instructions executed, DMAEND included; for a cause, of those before `pc` */
+    uint32_t pc;       /* for a cause the offset of the instruction that has it, else 0 */
+    uint32_t cause;    /* enum dma330_cause */
+    uint32_t addr;     /* for STORES_TWICE the lowest address that is stored twice, for STORES_SOURCE the lowest that is
+                        * read and stored, else 0 */
+} dma330_explanation;
 
-/* What the last of some steps did: the member `turn` of a dma330_report, and of nothing else. A halted channel reports
- * DMA330_HALTED, paused or not; a paused one reports DMA330_PAUSED, whatever its next step is. */
-enum dma330_turn {
-    DMA330_NO_STEP = 0,  /* no step was requested */
-    DMA330_STARTED = 1,  /* the channel's next transfer began to run */
-    DMA330_MOVED = 2,    /* one instruction was executed */
-    DMA330_NOTHING = 3,  /* no transfer is issued and unfinished */
-    DMA330_HELD = 4,     /* the next transfer conflicts with a running one: of several, that on the lowest channel */
-    DMA330_WAITING = 5,  /* for an event whose flag is clear */
-    DMA330_PAUSED = 6,   /* until dma330_resume or dma330_terminate */
-    DMA330_HALTED = 7,   /* by a transfer that failed, until dma330_terminate */
-    DMA330_FINISHED = 8
-};
-
-/* What the last of some steps of a channel over the caller's memory did: the member `turn` of a dma330_channel_report.
- * These numbers aren't those of enum dma330_turn. */
-enum dma330_channel_turn {
-    DMA330_CHANNEL_NO_STEP = 0,  /* `most` was 0, or 4294967295 instructions were executed since the load */
-    DMA330_CHANNEL_MOVED = 1,    /* an instruction was executed */
-    DMA330_CHANNEL_WAITING = 2,  /* for an event whose flag is clear; it has changed nothing */
-    DMA330_CHANNEL_ENDED = 3,    /* it was DMAEND: the program is gone */
-    DMA330_CHANNEL_FAULT = 4,    /* the instruction failed; it has changed nothing */
-    DMA330_CHANNEL_SIGNALLED = 5 /* it was DMASEV: the flag of `event` is set */
+/* What the last of some steps did: the member `last` of a dma330_report and of a dma330_channel_report. A halted
+ * channel of a controller reports DMA330_HALTED, paused or not; a paused one reports DMA330_PAUSED, whatever its next
+ * step is. */
+enum dma330_last_step {
+    DMA330_NO_STEP = 0,   /* none was taken: `most` was 0, or a dma330_channel had executed 4294967295 instructions */
+    DMA330_MOVED = 1,     /* one instruction was executed */
+    DMA330_WAITING = 2,   /* for an event whose flag is clear; nothing has changed */
+    /* of a dma330_channel */
+    DMA330_ENDED = 3,     /* it was DMAEND: the program is gone */
+    DMA330_FAULT = 4,     /* the instruction failed; it has changed nothing */
+    DMA330_SIGNALLED = 5, /* it was DMASEV: the flag of `event` is set */
+    /* of a dma330_controller */
+    DMA330_STARTED = 6,   /* the channel's next transfer began to run */
+    DMA330_FINISHED = 7,  /* the transfer has finished */
+    DMA330_NOTHING = 8,   /* no transfer is issued and unfinished */
+    DMA330_HELD = 9,      /* the next transfer conflicts with a running one: of several, that on the lowest channel */
+    DMA330_PAUSED = 10,   /* until dma330_resume or dma330_terminate */
+    DMA330_HALTED = 11    /* by a transfer that failed, until dma330_terminate */
 };
 
 /* How a transfer finished: the numbers of Linux's enum dmaengine_tx_result. */
 enum dma330_result_code {
     DMA330_NO_ERROR = 0,
-    DMA330_READ_FAILED = 1,  /* a burst met a mark of reading */
-    DMA330_WRITE_FAILED = 2, /* a burst met a mark of writing */
+    DMA330_READ_FAILED = 1,  /* a load met an injected error */
+    DMA330_WRITE_FAILED = 2, /* a store did */
     DMA330_ABORTED = 3       /* by dma330_terminate */
 };
 
 /* The state of a cookie. One that isn't issued yet is in progress; one that failed or was aborted is complete. */
 enum dma330_state { DMA330_UNKNOWN = 0, DMA330_IN_PROGRESS = 1, DMA330_COMPLETE = 2 };
 
-enum dma330_mark_kind { DMA330_MARK_READING = 0, DMA330_MARK_WRITING = 1 };
+/* The accesses to a range that fail. */
+enum dma330_access { DMA330_READS = 0, DMA330_WRITES = 1 };
 
-/* How a program that ran alone ended. */
-enum dma330_end { DMA330_END_ENDED = 1, DMA330_END_OUT_OF_TURNS = 2, DMA330_END_WAITING = 3, DMA330_END_FAULT = 4 };
+/* How a program that ran alone ended. OUT_OF_STEPS: it hasn't, after as many instructions as were allowed. */
+enum dma330_end { DMA330_END_OUT_OF_STEPS = 0, DMA330_END_ENDED = 1, DMA330_END_WAITING = 2, DMA330_END_FAULT = 3 };
 
 /* The manual's faults of a channel. */
 enum dma330_fault {
@@ -306,10 +295,22 @@ enum dma330_fault {
     DMA330_DATA_READ_ERR = 7
 };
 
-enum dma330_happening_kind { DMA330_WAITS = 0, DMA330_SIGNALS = 1 };
+/* The members of a dma330_start that are known. */
+enum dma330_known {
+    DMA330_KNOWN_NONE = 0,
+    DMA330_KNOWN_SAR = 1,
+    DMA330_KNOWN_DAR = 2,
+    DMA330_KNOWN_CCR = 4,
+    DMA330_KNOWN_LC0 = 8,
+    DMA330_KNOWN_LC1 = 16,
+    DMA330_KNOWN_ALL = 31
+};
 
-/* Why a call doesn't explain a program. Causes 1 to 5 have the numbers of enum dma330_fault: in every memory the instruction
- * fails so. From 9 on, a store may be a DMASTZ. */
+enum dma330_event_kind { DMA330_WAITS = 0, DMA330_SIGNALS = 1 };
+
+/* Why a call doesn't explain a program. Causes 1 to 5 have the numbers of enum dma330_fault: in every memory the
+ * instruction fails so. Its numbers 6 and 7 are missing here, since only a memory makes an instruction fail so. From 9
+ * on, a store may be a DMASTZ. */
 enum dma330_cause {
     DMA330_CAUSE_NONE = 0,
     DMA330_CAUSE_UNDEF_INSTR = 1,
@@ -321,19 +322,18 @@ enum dma330_cause {
     DMA330_CAUSE_STORES_PAST = 9,         /* a store does */
     DMA330_CAUSE_STORES_FIXED = 10,       /* a store's address doesn't rise */
     DMA330_CAUSE_DROPS_BYTES = 11,        /* a DMAMOV, DMAADDH or DMAADNH at which a device, as a chip, drops bytes that
-                                           * are loaded and not stored: DAR moves to other byte lanes of the bus, begins or ceases to rise,
-                                           * or doesn't rise and the beats get another size. Not with `bus` 0 */
+                                           * are loaded and not stored: DAR moves to other byte lanes of the bus, begins
+                                           * or ceases to rise, or doesn't rise and the beats get another size. Not with
+                                           * `bus` 0 */
     DMA330_CAUSE_BYTES_LEFT = 12,         /* at DMAEND loaded bytes aren't stored */
     DMA330_CAUSE_STORES_TWICE = 13,       /* at DMAEND a byte was stored twice */
     DMA330_CAUSE_STORES_SOURCE = 14,      /* at DMAEND a byte was stored at an address that was read */
     DMA330_CAUSE_NO_END = 15,             /* no DMAEND is among the first `most` instructions */
-    DMA330_CAUSE_STORES_ZEROS = 16,       /* a DMASTZ sets bytes to 0, which only dma330_explain_work lists. `steps` and
-                                           * `pc` are 0 */
-    DMA330_CAUSE_UNSET_SAR = 17,          /* for dma330_explain, the instruction uses a register that the program hasn't */
-    DMA330_CAUSE_UNSET_DAR = 18,          /* set. A DMAMOV DAR, DMAADDH or DMAADNH uses the old DAR, too, while bytes are */
-    DMA330_CAUSE_UNSET_CCR = 19,          /* in the buffer: a device, as a chip, compares it with the new one, to find */
-    DMA330_CAUSE_UNSET_LC0 = 20,          /* whether it drops the bytes. Not with `bus` 0. Causes 17 to 21 are since */
-    DMA330_CAUSE_UNSET_LC1 = 21           /* 1.6.0 */
+    DMA330_CAUSE_UNSET_SAR = 16,          /* the instruction uses a register that isn't known, and that the program */
+    DMA330_CAUSE_UNSET_DAR = 17,          /* hasn't set. A DMAMOV DAR, DMAADDH or DMAADNH uses the old DAR, too, */
+    DMA330_CAUSE_UNSET_CCR = 18,          /* while bytes are in the buffer: a device, as a chip, compares it with the */
+    DMA330_CAUSE_UNSET_LC0 = 19,          /* new one, to find whether it drops the bytes. Not with `bus` 0 */
+    DMA330_CAUSE_UNSET_LC1 = 20
 };
 
 /* The status of a channel, bits 3:0 of CSR (manual, channel status registers). A device of this library has those whose
@@ -379,8 +379,9 @@ enum dma330_ftrd {
 };
 
 /* What a call returns. What to do about a refusal:
- * - Fix the emulator: NOT_OPEN, ALREADY_OPEN, BAD_CHANNELS, SIZE_OUT_OF_RANGE, BAD_KIND, BUFFER_TOO_SMALL, NO_PROGRAM,
- *   BAD_REGIONS, BAD_CONFIG. (BUFFER_TOO_SMALL and NO_PROGRAM of calls that explain a guest's program are no errors.)
+ * - Fix the emulator: NOT_OPEN, ALREADY_OPEN, BAD_CHANNELS, SIZE_OUT_OF_RANGE, BAD_ACCESS, BUFFER_TOO_SMALL,
+ *   NO_PROGRAM, BAD_REGIONS, BAD_CONFIG. (BUFFER_TOO_SMALL and NO_PROGRAM of calls that explain a guest's program are
+ *   no errors.)
  * - Report it to the guest, or to whoever wrote the program or the text: EMPTY_LIST to SOURCE_MEETS_DESTINATION,
  *   BAD_EVENT, NO_CHANNEL, OUT_OF_MEMORY_RANGE, BAD_RANGE, PROGRAM_TOO_LONG, BAD_MNEMONIC to BAD_FIELD, UNEXPLAINED.
  * - Step the channel in `*conflict` (or resume or terminate it, or raise its event), handle the report, and try again:
@@ -391,45 +392,51 @@ enum dma330_ftrd {
  * - No errors: NO_RESULT, NOT_RUNNING. */
 enum dma330_code {
     DMA330_OK = 0,
+    /* of every kind of call */
     DMA330_NOT_OPEN = -1,             /* the controller, channel or device is zeroed or closed */
     DMA330_ALREADY_OPEN = -2,         /* an open of a controller, channel or device that is open */
     DMA330_NO_MEMORY = -3,            /* malloc or realloc returned NULL */
-    DMA330_BAD_EVENT = -4,            /* an event is above 31 */
-    DMA330_BAD_KIND = -5,             /* a kind of mark is neither 0 nor 1 */
-    DMA330_NO_RESULT = -6,            /* the cookie hasn't finished, was never given, or its result is forgotten */
-    DMA330_NOT_RUNNING = -7,          /* nothing runs on the channel, or there is no such channel */
-    DMA330_BUFFER_TOO_SMALL = -8,     /* the output has more bytes than there is room */
-    DMA330_NO_PROGRAM = -9,           /* the channel has no program */
-    DMA330_OUT_OF_MEMORY_RANGE = -10, /* a range or a segment ends above the memory's size */
-    DMA330_BUSY = -11,                /* a running transfer conflicts */
-    DMA330_NO_CHANNEL = -12,          /* the channel's number isn't below the number of channels */
-    DMA330_COOKIES_SPENT = -13,       /* the channel has used cookie 2147483647 */
-    DMA330_STEPS_SPENT = -14,         /* an instruction is due, and the step count is 2^64 - 1 */
-    DMA330_BAD_RANGE = -15,           /* a range to be marked is empty, or ends above 2^32 */
-    DMA330_RUNNING = -16,             /* a checkpoint, and a transfer runs */
-    DMA330_BAD_CHANNELS = -20,        /* the number of channels isn't 1 to 8 */
-    DMA330_SIZE_OUT_OF_RANGE = -21,   /* the size of a memory isn't 1 to 4294963200 */
-    DMA330_BAD_REGIONS = -22,         /* more than 64 regions, or one begins before the end of the one before it (also
+    DMA330_BUFFER_TOO_SMALL = -4,     /* the output has more bytes or items than there is room */
+    DMA330_NO_CHANNEL = -5,           /* the channel's number isn't below the number of channels */
+    DMA330_NO_PROGRAM = -6,           /* the channel has no program */
+    DMA330_PROGRAM_TOO_LONG = -7,     /* a program has more than 8192 bytes */
+    /* of arguments */
+    DMA330_BAD_CHANNELS = -8,         /* the number of channels isn't 1 to 8 */
+    DMA330_SIZE_OUT_OF_RANGE = -9,    /* the size of a memory isn't 1 to 4294963200 */
+    DMA330_BAD_REGIONS = -10,         /* more than 64 regions, or one begins before the end of the one before it (also
                                        * if one of them is empty), or one ends above 4294967296 */
-    DMA330_BAD_CONFIG = -23,          /* no device can have this configuration, or this bus */
-    DMA330_EMPTY_LIST = -30,          /* a list has no segment */
-    DMA330_TOO_MANY_SEGMENTS = -31,   /* a list has more than 64 segments */
-    DMA330_EMPTY_SEGMENT = -32,       /* a segment has length 0 */
-    DMA330_SEGMENT_WRAPS = -33,       /* a segment ends above 2^32 */
-    DMA330_TOTALS_DIFFER = -34,       /* the lists have different numbers of bytes */
-    DMA330_TOO_LONG = -35,            /* a list has more than 1048576 bytes */
-    DMA330_DESTINATIONS_MEET = -36,   /* two destination segments share an address */
-    DMA330_SOURCE_MEETS_DESTINATION = -37, /* a source and a destination segment share an address */
-    DMA330_PROGRAM_TOO_LONG = -40,    /* a program has more than 8192 bytes */
-    DMA330_BAD_SAVE = -42,            /* the bytes are no save of a channel in this version, or of any device */
-    DMA330_OTHER_DEVICE = -43,        /* the save is of a device of another version or configuration */
-    DMA330_BAD_MNEMONIC = -50,        /* assembly: no instruction has this name */
-    DMA330_BAD_OPERAND = -51,         /* assembly: an operand is missing, of a wrong form, or one too many */
-    DMA330_NUMBER_OUT_OF_RANGE = -52, /* assembly: a number is outside its range */
-    DMA330_CUT_INSTRUCTION = -60,     /* disassembly: the bytes end within an instruction */
-    DMA330_UNKNOWN_INSTRUCTION = -61, /* disassembly: no instruction begins with this byte */
-    DMA330_BAD_FIELD = -62,           /* disassembly: a field is outside its range */
-    DMA330_UNEXPLAINED = -70          /* the program isn't explained; the explanation, or work, has the cause */
+    DMA330_BAD_CONFIG = -11,          /* no device can have this configuration, this bus, or this dma330_start */
+    DMA330_BAD_EVENT = -12,           /* an event is above 31 */
+    DMA330_BAD_ACCESS = -13,          /* neither DMA330_READS nor DMA330_WRITES */
+    DMA330_BAD_RANGE = -14,           /* a range in which accesses are to fail is empty, or ends above 2^32 */
+    DMA330_OUT_OF_MEMORY_RANGE = -15, /* a range or a segment ends above the memory's size */
+    /* of a transfer's lists */
+    DMA330_EMPTY_LIST = -16,          /* a list has no segment */
+    DMA330_TOO_MANY_SEGMENTS = -17,   /* a list has more than 64 segments */
+    DMA330_EMPTY_SEGMENT = -18,       /* a segment has length 0 */
+    DMA330_SEGMENT_WRAPS = -19,       /* a segment ends above 2^32 */
+    DMA330_TOTALS_DIFFER = -20,       /* the lists have different numbers of bytes */
+    DMA330_TOO_LONG = -21,            /* a list has more than 1048576 bytes */
+    DMA330_DESTINATIONS_MEET = -22,   /* two destination segments share an address */
+    DMA330_SOURCE_MEETS_DESTINATION = -23, /* a source and a destination segment share an address */
+    /* of a controller's transfers */
+    DMA330_BUSY = -24,                /* a running transfer conflicts */
+    DMA330_RUNNING = -25,             /* a checkpoint, and a transfer runs */
+    DMA330_NOT_RUNNING = -26,         /* nothing runs on the channel, or there is no such channel */
+    DMA330_NO_RESULT = -27,           /* the cookie hasn't finished, was never given, or its result is forgotten */
+    DMA330_COOKIES_SPENT = -28,       /* the channel has used cookie 2147483647 */
+    DMA330_STEPS_SPENT = -29,         /* an instruction is due, and the step count is 2^64 - 1 */
+    /* of saves */
+    DMA330_BAD_SAVE = -30,            /* the bytes are no save of a channel, or of any device */
+    DMA330_OTHER_DEVICE = -31,        /* the save has another version, or is of a device of another configuration */
+    /* of assembly: a line, and of disassembly: an offset */
+    DMA330_BAD_MNEMONIC = -32,        /* no instruction has this name */
+    DMA330_BAD_OPERAND = -33,         /* an operand is missing, of a wrong form, or one too many */
+    DMA330_NUMBER_OUT_OF_RANGE = -34, /* a number is outside its range */
+    DMA330_CUT_INSTRUCTION = -35,     /* the bytes end within an instruction */
+    DMA330_UNKNOWN_INSTRUCTION = -36, /* no instruction begins with this byte */
+    DMA330_BAD_FIELD = -37,           /* a field is outside its range */
+    DMA330_UNEXPLAINED = -38          /* the program isn't explained; the explanation has the cause */
 };
 
 /* ---- names of numbers, for messages ---- */
@@ -443,7 +450,6 @@ enum dma330_code {
 #endif
 
 #define DMA330_NAMED(name) case DMA330_##name: return #name;
-#define DMA330_NAMED_TURN(name) case DMA330_CHANNEL_##name: return #name;
 #define DMA330_NAMED_CAUSE(name) case DMA330_CAUSE_##name: return #name;
 #define DMA330_NAMED_CSR(name) case DMA330_CSR_##name: return #name;
 #define DMA330_NAMED_FTR(name) case DMA330_FTR_##name: return #name;
@@ -454,7 +460,7 @@ DMA330_INLINE const char *dma330_code_name(int32_t code)
 {
     switch (code) {
         DMA330_NAMED(OK) DMA330_NAMED(NOT_OPEN) DMA330_NAMED(ALREADY_OPEN) DMA330_NAMED(NO_MEMORY)
-        DMA330_NAMED(BAD_EVENT) DMA330_NAMED(BAD_KIND) DMA330_NAMED(NO_RESULT) DMA330_NAMED(NOT_RUNNING)
+        DMA330_NAMED(BAD_EVENT) DMA330_NAMED(BAD_ACCESS) DMA330_NAMED(NO_RESULT) DMA330_NAMED(NOT_RUNNING)
         DMA330_NAMED(BUFFER_TOO_SMALL) DMA330_NAMED(NO_PROGRAM) DMA330_NAMED(OUT_OF_MEMORY_RANGE) DMA330_NAMED(BUSY)
         DMA330_NAMED(NO_CHANNEL) DMA330_NAMED(COOKIES_SPENT) DMA330_NAMED(STEPS_SPENT) DMA330_NAMED(BAD_RANGE)
         DMA330_NAMED(RUNNING) DMA330_NAMED(BAD_CHANNELS) DMA330_NAMED(SIZE_OUT_OF_RANGE) DMA330_NAMED(BAD_REGIONS)
@@ -468,27 +474,20 @@ DMA330_INLINE const char *dma330_code_name(int32_t code)
     }
 }
 
-/* Returns the name of the report's turn, as "MOVED" for DMA330_MOVED. */
-DMA330_INLINE const char *dma330_turn_name(const dma330_report *report)
+/* Returns the name of what a step did, an enum dma330_last_step, as "MOVED" for DMA330_MOVED; "?" if none has this
+ * number. */
+DMA330_INLINE const char *dma330_last_step_name(uint32_t last)
 {
-    switch (report->turn) {
-        DMA330_NAMED(NO_STEP) DMA330_NAMED(STARTED) DMA330_NAMED(MOVED) DMA330_NAMED(NOTHING) DMA330_NAMED(HELD)
-        DMA330_NAMED(WAITING) DMA330_NAMED(PAUSED) DMA330_NAMED(HALTED) DMA330_NAMED(FINISHED)
+    switch (last) {
+        DMA330_NAMED(NO_STEP) DMA330_NAMED(MOVED) DMA330_NAMED(WAITING) DMA330_NAMED(ENDED) DMA330_NAMED(FAULT)
+        DMA330_NAMED(SIGNALLED) DMA330_NAMED(STARTED) DMA330_NAMED(FINISHED) DMA330_NAMED(NOTHING) DMA330_NAMED(HELD)
+        DMA330_NAMED(PAUSED) DMA330_NAMED(HALTED)
     default: return "?";
     }
 }
 
-/* Returns the name of the report's turn, as "MOVED" for DMA330_CHANNEL_MOVED. */
-DMA330_INLINE const char *dma330_channel_turn_name(const dma330_channel_report *report)
-{
-    switch (report->turn) {
-        DMA330_NAMED_TURN(NO_STEP) DMA330_NAMED_TURN(MOVED) DMA330_NAMED_TURN(WAITING) DMA330_NAMED_TURN(ENDED)
-        DMA330_NAMED_TURN(FAULT) DMA330_NAMED_TURN(SIGNALLED)
-    default: return "?";
-    }
-}
-
-/* Returns the name of a cause without DMA330_CAUSE_, as "NO_END" for DMA330_CAUSE_NO_END; "?" if none has this number. */
+/* Returns the name of a cause without DMA330_CAUSE_, as "NO_END" for DMA330_CAUSE_NO_END; "?" if none has this
+ * number. */
 DMA330_INLINE const char *dma330_cause_name(uint32_t cause)
 {
     switch (cause) {
@@ -496,7 +495,7 @@ DMA330_INLINE const char *dma330_cause_name(uint32_t cause)
         DMA330_NAMED_CAUSE(MFIFO_ERR) DMA330_NAMED_CAUSE(ST_DATA_UNAVAILABLE) DMA330_NAMED_CAUSE(INSTR_FETCH_ERR)
         DMA330_NAMED_CAUSE(LOADS_PAST) DMA330_NAMED_CAUSE(STORES_PAST) DMA330_NAMED_CAUSE(STORES_FIXED)
         DMA330_NAMED_CAUSE(DROPS_BYTES) DMA330_NAMED_CAUSE(BYTES_LEFT) DMA330_NAMED_CAUSE(STORES_TWICE)
-        DMA330_NAMED_CAUSE(STORES_SOURCE) DMA330_NAMED_CAUSE(NO_END) DMA330_NAMED_CAUSE(STORES_ZEROS)
+        DMA330_NAMED_CAUSE(STORES_SOURCE) DMA330_NAMED_CAUSE(NO_END)
         DMA330_NAMED_CAUSE(UNSET_SAR) DMA330_NAMED_CAUSE(UNSET_DAR) DMA330_NAMED_CAUSE(UNSET_CCR)
         DMA330_NAMED_CAUSE(UNSET_LC0) DMA330_NAMED_CAUSE(UNSET_LC1)
     default: return "?";
@@ -562,7 +561,6 @@ DMA330_INLINE const char *dma330_ftrd_name(uint32_t bit)
 }
 
 #undef DMA330_NAMED
-#undef DMA330_NAMED_TURN
 #undef DMA330_NAMED_CSR
 #undef DMA330_NAMED_FTR
 #undef DMA330_NAMED_FTRD
@@ -580,13 +578,14 @@ int32_t dma330_open(dma330_controller *controller, uint32_t size, uint8_t channe
 /* Frees what an open controller holds; it may be opened again. Does nothing if it isn't open. */
 void dma330_close(dma330_controller *controller) DMA330_NO_NULLS;
 
-/* Writes bytes into the memory from an address on, marked or not. Codes: OUT_OF_MEMORY_RANGE, BUSY if a running transfer
- * reads or writes one of the addresses, NO_MEMORY. */
+/* Writes bytes into the memory from an address on, also where an error is injected. Codes: OUT_OF_MEMORY_RANGE, BUSY
+ * if a running transfer reads or writes one of the addresses, NO_MEMORY. */
 int32_t dma330_write(dma330_controller *controller, uint32_t addr, const uint8_t *bytes, size_t len,
                      dma330_conflict *conflict) DMA330_NO_NULLS;
 
-/* Reads `len` bytes of the memory from an address on, marked or not. The history keeps a copy of them, so read gigabytes in
- * parts. Codes: OUT_OF_MEMORY_RANGE, BUSY if a running transfer writes one of the addresses, NO_MEMORY. */
+/* Reads `len` bytes of the memory from an address on, also where an error is injected. The history keeps a copy of
+ * them, so read gigabytes in parts. Codes: OUT_OF_MEMORY_RANGE, BUSY if a running transfer writes one of the
+ * addresses, NO_MEMORY. */
 int32_t dma330_read(dma330_controller *controller, uint32_t addr, uint8_t *out, size_t len,
                     dma330_conflict *conflict) DMA330_NO_NULLS;
 
@@ -603,13 +602,13 @@ int32_t dma330_submit(dma330_controller *controller, uint8_t channel, const dma3
                       const dma330_segment *dst, size_t dst_count, int32_t wait, int32_t signal,
                       uint32_t *cookie) DMA330_NO_NULLS;
 
-/* Queues a fill, which copies the byte at address `src` to every place of the destination list, as dma330_submit queues a
- * copy, with the same codes except TOTALS_DIFFER. */
+/* Queues a fill, which copies the byte at address `src` to every place of the destination list, as dma330_submit
+ * queues a copy, with the same codes except TOTALS_DIFFER. */
 int32_t dma330_submit_fill(dma330_controller *controller, uint8_t channel, uint32_t src, const dma330_segment *dst,
                            size_t dst_count, int32_t wait, int32_t signal, uint32_t *cookie) DMA330_NO_NULLS;
 
-/* Allows all submitted transfers of a channel to start, and writes how many were not allowed before. It adds an entry to the
- * history even if that number is 0. Codes: NO_CHANNEL, NO_MEMORY. */
+/* Allows all submitted transfers of a channel to start, and writes how many were not allowed before. It adds an entry
+ * to the history even if that number is 0. Codes: NO_CHANNEL, NO_MEMORY. */
 int32_t dma330_issue(dma330_controller *controller, uint8_t channel, uint32_t *count) DMA330_NO_NULLS;
 
 /* Pauses a channel, paused or not: its steps do nothing until dma330_resume or dma330_terminate. Codes: NO_CHANNEL. */
@@ -618,15 +617,16 @@ int32_t dma330_pause(dma330_controller *controller, uint8_t channel) DMA330_NO_N
 /* Ends the pause of a channel. Codes: NO_CHANNEL. */
 int32_t dma330_resume(dma330_controller *controller, uint8_t channel) DMA330_NO_NULLS;
 
-/* Aborts all unfinished transfers of a channel, issued or not, ends its pause and its halt, and writes the number of aborted
- * transfers; one that failed isn't counted. Stored bytes stay stored, and raised events stay raised. Codes: NO_CHANNEL,
- * NO_MEMORY. */
+/* Aborts all unfinished transfers of a channel, issued or not, ends its pause and its halt, and writes the number of
+ * aborted transfers; one that failed isn't counted. Stored bytes stay stored, and raised events stay raised. Codes:
+ * NO_CHANNEL, NO_MEMORY. */
 int32_t dma330_terminate(dma330_controller *controller, uint8_t channel, uint32_t *count) DMA330_NO_NULLS;
 
 /* Steps a channel up to `most` times, or until a step neither starts nor moves. Codes, of the first step: NO_CHANNEL,
- * STEPS_SPENT, NO_MEMORY. If a later step is refused, the call returns DMA330_OK with a report of the steps before it, and
- * the next call tries that step again. With `most` 0 the only code is NOT_OPEN. */
-int32_t dma330_step(dma330_controller *controller, uint8_t channel, uint32_t most, dma330_report *report) DMA330_NO_NULLS;
+ * STEPS_SPENT, NO_MEMORY. If a later step is refused, the call returns DMA330_OK with a report of the steps before it,
+ * and the next call tries that step again. With `most` 0 the only code is NOT_OPEN. */
+int32_t dma330_step(dma330_controller *controller, uint8_t channel, uint32_t most,
+                    dma330_report *report) DMA330_NO_NULLS;
 
 /* ---- readings ---- */
 
@@ -644,16 +644,16 @@ int32_t dma330_running(dma330_controller *controller, uint8_t channel, dma330_ru
 /* Writes the number of unfinished cookies of a channel, 0 for a channel that doesn't exist. */
 int32_t dma330_unfinished(dma330_controller *controller, uint8_t channel, uint32_t *count) DMA330_NO_NULLS;
 
-/* Writes how many cookies of a channel, from cookie 1 on, have results that checkpoints have forgotten; 0 for a channel that
- * doesn't exist. */
+/* Writes how many cookies of a channel, from cookie 1 on, have results that checkpoints have forgotten; 0 for a
+ * channel that doesn't exist. */
 int32_t dma330_forgotten(dma330_controller *controller, uint8_t channel, uint32_t *count) DMA330_NO_NULLS;
 
-/* Writes the number of steps that moved or finished, on all channels since the controller was opened. Steps that started a
- * transfer or did nothing count in `taken` alone. */
+/* Writes the number of steps that moved or finished, on all channels since the controller was opened. Steps that
+ * started a transfer or did nothing count in `taken` alone. */
 int32_t dma330_steps(dma330_controller *controller, uint64_t *steps) DMA330_NO_NULLS;
 
-/* Writes the number of entries of the history: one for each accepted write, read, submit, issue, terminate, mark, unmark and
- * raise, and for each wait that passes, each signal and each finish. */
+/* Writes the number of entries of the history: one for each accepted write, read, submit, issue, terminate, raise and
+ * each call for injected errors, and for each wait that passes, each signal and each finish. */
 int32_t dma330_history_entries(dma330_controller *controller, uint64_t *count) DMA330_NO_NULLS;
 
 /* Writes the number of bytes of writes and reads that the history keeps, in time proportional to its entries. Each
@@ -663,18 +663,18 @@ int32_t dma330_history_bytes(dma330_controller *controller, uint64_t *count) DMA
 /* Writes the number of running transfers of all channels. */
 int32_t dma330_running_count(dma330_controller *controller, uint32_t *count) DMA330_NO_NULLS;
 
-/* ---- marks, events, the history ---- */
+/* ---- injected errors, events, the history ---- */
 
-/* Marks a range, inside the memory or not: bursts that read it or write it, by `kind`, fail from then on. Codes: BAD_KIND,
- * BAD_RANGE, NO_MEMORY. */
-int32_t dma330_mark(dma330_controller *controller, uint32_t kind, dma330_segment range) DMA330_NO_NULLS;
+/* Injects an error: bursts that read a range, or write it, by `access` (enum dma330_access), fail from then on. The
+ * range may lie inside the memory or not. Codes: BAD_ACCESS, BAD_RANGE, NO_MEMORY. */
+int32_t dma330_inject_error(dma330_controller *controller, uint32_t access, dma330_segment range) DMA330_NO_NULLS;
 
-/* Removes all marks. Codes: NO_MEMORY. */
-int32_t dma330_unmark(dma330_controller *controller) DMA330_NO_NULLS;
+/* Removes all injected errors. Codes: NO_MEMORY. */
+int32_t dma330_uninject_errors(dma330_controller *controller) DMA330_NO_NULLS;
 
-/* Sets the flag of an event of the controller, which stays set until a transfer that waits for it passes and clears it. To
- * clear one, run a fill of one byte that waits for it; if a step reports DMA330_WAITING, the flag was clear, and a terminate
- * removes the fill. Codes: BAD_EVENT, NO_MEMORY. */
+/* Sets the flag of an event of the controller, which stays set until a transfer that waits for it passes and clears
+ * it. To clear one, run a fill of one byte that waits for it; if a step reports DMA330_WAITING, the flag was clear,
+ * and a terminate removes the fill. Codes: BAD_EVENT, NO_MEMORY. */
 int32_t dma330_raise(dma330_controller *controller, uint8_t event) DMA330_NO_NULLS;
 
 /* Drops the history and the results of finished transfers, and frees their memory; nothing else changes. Transfers that
@@ -686,12 +686,12 @@ int32_t dma330_checkpoint(dma330_controller *controller, dma330_conflict *confli
 
 /* ---- a channel over the caller's memory ----
  *
- * A channel needs no controller. Its program reads and writes the caller's memory in place, which is lent for the time of a
- * call as regions: an array that rises by address, in which no `bytes` is null and no two overlap (RAM that the guest
- * sees at two addresses is lent at one). Between calls memory and flags are the caller's to read and to write. Several
- * channels may step in turn over the same memory and flags, each call over the regions that it is lent. Each call but
- * open and close fails with NOT_OPEN if the channel isn't open; a call that fails changes nothing. An open channel has
- * room for the longest program, so load_program, load_from and restore allocate nothing.
+ * A channel needs no controller. Its program reads and writes the caller's memory in place, which is lent for the time
+ * of a call as regions: an array that rises by address, in which no `bytes` is null and no two overlap (RAM that the
+ * guest sees at two addresses is lent at one). Between calls memory and flags are the caller's to read and to write.
+ * Several channels may step in turn over the same memory and flags, each call over the regions that it is lent. Each
+ * call but open and close fails with NOT_OPEN if the channel isn't open; a call that fails changes nothing. An open
+ * channel has room for the longest program, so load_program, load_from and restore allocate nothing.
  *
  * This is proved for a transfer that load_copy or load_fill loads, or load_from from memory that begins with its
  * program:
@@ -700,21 +700,23 @@ int32_t dma330_checkpoint(dma330_controller *controller, dma330_conflict *confli
  *   destinations read-only, and nobody else wrote there. Then the first `stored` bytes of the destinations, as
  *   dma330_channel_registers counts them, are the sources' bytes at the load, and the rest of these ranges is
  *   unchanged, also after a stop or a fault. After SIGNALLED or ENDED all bytes are copied. A call waits only for the
- *   transfer's event, and fails only at a mark in these ranges.
+ *   transfer's event, and fails only at an injected error in these ranges.
  * - Another channel may be loaded at any time, and stepped over regions of its own. It doesn't write there if no
  *   `report->written` of it since the load has an address of these ranges, or if it runs the program of another
  *   transfer whose destinations lie elsewhere. */
 
-/* Opens a channel without a program and without marks, with room for the longest program. Codes: ALREADY_OPEN, NO_MEMORY. */
+/* Opens a channel without a program and without injected errors, with room for the longest program. Codes:
+ * ALREADY_OPEN, NO_MEMORY. */
 int32_t dma330_channel_open(dma330_channel *channel) DMA330_NO_NULLS;
 
 /* Frees what an open channel holds; it may be opened again. Does nothing if it isn't open. */
 void dma330_channel_close(dma330_channel *channel) DMA330_NO_NULLS;
 
-/* Loads the program of a copy in place of the one before, sets registers and counts to 0, and empties the buffer. Codes:
- * those of dma330_submit up to the first NO_MEMORY. */
+/* Loads the program of a copy in place of the one before, sets registers and counts to 0, and empties the buffer.
+ * Codes: those of dma330_submit up to the first NO_MEMORY. */
 int32_t dma330_channel_load_copy(dma330_channel *channel, const dma330_segment *src, size_t src_count,
-                                 const dma330_segment *dst, size_t dst_count, int32_t wait, int32_t signal) DMA330_NO_NULLS;
+                                 const dma330_segment *dst, size_t dst_count, int32_t wait,
+                                 int32_t signal) DMA330_NO_NULLS;
 
 /* Loads the program of a fill in the same way, with the same codes except TOTALS_DIFFER. */
 int32_t dma330_channel_load_fill(dma330_channel *channel, uint32_t src, const dma330_segment *dst, size_t dst_count,
@@ -747,14 +749,14 @@ int32_t dma330_channel_stop(dma330_channel *channel) DMA330_NO_NULLS;
 /* Writes the registers and counts. */
 int32_t dma330_channel_registers(dma330_channel *channel, dma330_registers *registers) DMA330_NO_NULLS;
 
-/* Marks a range, inside the memory or not: loads or stores of this channel there, by `kind`, fail from then on. Codes:
- * BAD_KIND, BAD_RANGE, NO_MEMORY. */
-int32_t dma330_channel_mark(dma330_channel *channel, uint32_t kind, dma330_segment range) DMA330_NO_NULLS;
+/* Injects an error: loads or stores of this channel in a range, by `access` (enum dma330_access), fail from then on.
+ * The range may lie inside the memory or not. Codes: BAD_ACCESS, BAD_RANGE, NO_MEMORY. */
+int32_t dma330_channel_inject_error(dma330_channel *channel, uint32_t access, dma330_segment range) DMA330_NO_NULLS;
 
-/* Removes the marks of this channel. */
-int32_t dma330_channel_unmark(dma330_channel *channel) DMA330_NO_NULLS;
+/* Removes all injected errors of this channel. */
+int32_t dma330_channel_uninject_errors(dma330_channel *channel) DMA330_NO_NULLS;
 
-/* Writes the whole channel, except its marks, as bytes, and their number, at most DMA330_MAX_SAVE. Codes:
+/* Writes the whole channel, except its injected errors, as bytes, and their number, at most DMA330_MAX_SAVE. Codes:
  * BUFFER_TOO_SMALL. By offsets the bytes are as follows; numbers have their low byte first:
  *
  *     0               8 bytes: dma330, a 0, and the version of this layout, 1
@@ -768,20 +770,20 @@ int32_t dma330_channel_unmark(dma330_channel *channel) DMA330_NO_NULLS;
  *     end             4: the Adler-32 checksum (RFC 1950) of all bytes before it */
 int32_t dma330_channel_save(dma330_channel *channel, uint8_t *out, size_t room, size_t *len) DMA330_NO_NULLS;
 
-/* Makes the channel the one that was saved. A save holds no marks; those of this channel stay. Accepts bytes exactly if
- * they have the layout above, with these values, with a CCR that DMAMOV accepts, an offset in the program or at its end
- * (any number if none is loaded), at most 256 bytes stored for each instruction, and the right lengths and checksum. It
- * doesn't test whether a program that is marked as compiled is one. Codes: BAD_SAVE. */
+/* Makes the channel the one that was saved. A save holds no injected errors; those of this channel stay. Accepts bytes
+ * exactly if they have the layout above, with these values, with a CCR that DMAMOV accepts, an offset in the program
+ * or at its end (any number if none is loaded), at most 256 bytes stored for each instruction, and the right lengths
+ * and checksum. It doesn't test whether a program that is marked as compiled is one. Codes: BAD_SAVE. */
 int32_t dma330_channel_restore(dma330_channel *channel, const uint8_t *save, size_t len) DMA330_NO_NULLS;
 
 /* ---- a device over the caller's memory ----
  *
  * The registers of a DMA-330 as a guest's driver sees them (Technical Reference Manual, ARM DDI 0424). Its channels
- * execute the guest's programs in the caller's memory, which is lent as for a channel. An emulator forwards the guest's
- * accesses to read and write, lets channels take turns by step while can_step writes 1, and sets its interrupt lines
- * from irqs and irq_abort after each write, reset and restore, and after each turn that reports lines_changed.
- * docs/CHIP.md lists what differs from the chip. Only open and the calls that explain allocate. Each call but open and close fails with
- * NOT_OPEN if the device isn't open; a call that fails changes nothing, except a restore that returns BAD_SAVE. */
+ * execute the guest's programs in the caller's memory, which is lent as for a channel. An emulator forwards the
+ * guest's accesses to read and write, lets channels take turns by step while can_step writes 1, and sets its interrupt
+ * lines from lines after each write, reset and restore, and after each turn that reports lines_changed. docs/CHIP.md
+ * lists what differs from the chip. Only open and the calls that explain allocate. Each call but open and close fails
+ * with NOT_OPEN if the device isn't open; a call that fails changes nothing, except a restore that returns BAD_SAVE. */
 
 /* Opens a device in its state after a reset. Codes: ALREADY_OPEN, BAD_CONFIG, NO_MEMORY. */
 int32_t dma330_device_open(dma330_device *device, const dma330_device_config *config) DMA330_NO_NULLS;
@@ -797,7 +799,8 @@ int32_t dma330_device_reset(dma330_device *device) DMA330_NO_NULLS;
 int32_t dma330_device_read(dma330_device *device, uint32_t offset, uint32_t *value) DMA330_NO_NULLS;
 
 /* Writes a register for the guest. A write to an offset without a register that can be written is ignored. A DMAGO
- * reads its program from the regions, as dma330_channel_load_from does; each write tests them. Codes: BAD_REGIONS. */
+ * reads its program from the regions, as dma330_channel_load_from does. Codes: BAD_REGIONS, which only a write to
+ * DBGCMD (offset 0xD04) tests. */
 int32_t dma330_device_write(dma330_device *device, uint32_t offset, uint32_t value, const dma330_region *regions,
                             size_t region_count) DMA330_NO_NULLS;
 
@@ -816,43 +819,35 @@ int32_t dma330_device_step(dma330_device *device, uint8_t channel, uint32_t most
  * rows lie after their sources, or all before them. Else it takes one turn, which may end early where rows begin: if
  * no row comes next, the call first looks for one in the next 300 instructions at most. The result is that of
  * `rows->count` calls of dma330_device_step with a `most` of `rows->steps`; `count` times `steps` is at most `most`.
- * Together they took `count` times `taken` steps. A dma330_device_turn has no such number: a host that needs it makes
- * this call in place of dma330_device_step. Codes: BAD_REGIONS. Since 1.6.0. */
+ * Together they took `count` times `turn.taken` steps. Codes: BAD_REGIONS. */
 int32_t dma330_device_step_rows(dma330_device *device, uint8_t channel, uint32_t most, const dma330_region *regions,
                                 size_t region_count, dma330_device_rows *rows) DMA330_NO_NULLS;
 
 /* Explains the program that a DMAGO loaded into a channel, as dma330_explain does on the device's bus: from its first
  * instruction on, wherever the channel is in it, but with the registers that the channel has now. A DMAGO keeps the
  * registers, so before the channel's first turn they are those with which the program begins. Later the answer is the
- * same if dma330_explain explains the program, since that holds for any registers. A channel has a program from the DMAGO until the DMAEND or a
- * DMAKILL, also while it waits or is faulting. After a restore nothing is promised of the channel's turns, since a save
- * may have any registers. The explanation doesn't depend on the number of events: a device fails at an instruction with
- * an event that it doesn't have. Codes: NO_CHANNEL, NO_PROGRAM, NO_MEMORY, UNEXPLAINED, BUFFER_TOO_SMALL. */
+ * same if dma330_explain explains the program with no register known, since that holds for any registers. A channel
+ * has a program from the DMAGO until the DMAEND or a DMAKILL, also while it waits or is faulting. After a restore
+ * nothing is promised of the channel's turns, since a save may have any registers. The explanation doesn't depend on
+ * the number of events: a device fails at an instruction with an event that it doesn't have. Codes: NO_CHANNEL,
+ * NO_PROGRAM, NO_MEMORY, UNEXPLAINED, BUFFER_TOO_SMALL. */
 int32_t dma330_device_explain(dma330_device *device, uint8_t channel, uint32_t most, dma330_repeated *src,
-                              size_t src_room, dma330_segment *dst, size_t dst_room, dma330_happening *happenings,
-                              size_t happenings_room, dma330_explanation *explanation) DMA330_NO_NULLS;
-
-/* As dma330_device_explain, but with all that the program does, as dma330_explain_work. Codes: those of
- * dma330_device_explain. Since 1.6.0. */
-int32_t dma330_device_explain_work(dma330_device *device, uint8_t channel, uint32_t most, dma330_repeated *src,
-                                   size_t src_room, dma330_segment *dst, size_t dst_room, dma330_segment *zeros,
-                                   size_t zeros_room, dma330_moment *moments, size_t moments_room,
-                                   dma330_work *work) DMA330_NO_NULLS;
+                              size_t src_room, dma330_segment *dst, size_t dst_room, dma330_segment *zeros,
+                              size_t zeros_room, dma330_event *events, size_t events_room,
+                              dma330_explanation *explanation) DMA330_NO_NULLS;
 
 /* Writes the registers and counts of a channel, as dma330_channel_registers does. If the channel has failed, they are
  * those from before the instruction that failed, whatever the fault is. After each turn of a program that a DMAGO
- * started and dma330_device_explain_work explained before the first turn, `stored` bytes of its `dst` and `zeros` are
- * done, of each list the first ones, also if the channel then waits or is faulting, if nobody else writes what the
- * program reads or writes. Codes: NO_CHANNEL. Since 1.6.0. */
+ * started and dma330_device_explain explained before the first turn, `stored` bytes of its `dst` and `zeros` are done,
+ * of each list the first ones, also if the channel then waits or is faulting, if nobody else writes what the program
+ * reads or writes. Codes: NO_CHANNEL. */
 int32_t dma330_device_registers(dma330_device *device, uint8_t channel, dma330_registers *registers) DMA330_NO_NULLS;
 
-/* Writes the lines irq[31:0]. A high line stays high until the guest clears its interrupt by INTCLR, a reset, or a
- * restore of a device in which it is low. INTCLR clears what INTEN makes an interrupt then, also an event that was set
- * before INTEN did so. */
-int32_t dma330_device_irqs(dma330_device *device, uint32_t *lines) DMA330_NO_NULLS;
-
-/* Writes 1 if the line irq_abort is high, else 0. It is high until the guest kills each faulting thread. */
-int32_t dma330_device_irq_abort(dma330_device *device, uint32_t *line) DMA330_NO_NULLS;
+/* Writes the lines irq[31:0], and 1 if the line irq_abort is high, else 0. A high line of irq stays high until the
+ * guest clears its interrupt by INTCLR, a reset, or a restore of a device in which it is low. INTCLR clears what INTEN
+ * makes an interrupt then, also an event that was set before INTEN did so. The line irq_abort is high until the guest
+ * kills each faulting channel, and the manager if that is faulting. */
+int32_t dma330_device_lines(dma330_device *device, uint32_t *irqs, uint32_t *irq_abort) DMA330_NO_NULLS;
 
 /* Writes 1 if a channel can step, else 0. A channel can step if it runs and doesn't wait; one that waits can if its
  * event is set and INTEN doesn't make it an interrupt. After a 0 nothing happens until the guest's next write of a
@@ -863,7 +858,7 @@ int32_t dma330_device_can_step(dma330_device *device, uint32_t *can_step) DMA330
  * offsets the bytes are as follows; numbers have their low byte first:
  *
  *     0            7 bytes: dma330 and a 1
- *     7            1: the version of this layout, 2
+ *     7            1: the version of this layout, 1
  *     8, 9, 10     1 each: channels, events, 1 if the manager is non-secure after a reset
  *     11, 12       1 each: the codes of the bus in CRD (2 to 4) and of the revision in periph_id_2 (0 to 3)
  *     13           2: the lines of the buffer, 1 to 1024
@@ -876,25 +871,23 @@ int32_t dma330_device_can_step(dma330_device *device, uint32_t *can_step) DMA330
  *     end          4: the Adler-32 checksum (RFC 1950) of all bytes before it */
 int32_t dma330_device_save(dma330_device *device, uint8_t *out, size_t room, size_t *len) DMA330_NO_NULLS;
 
-/* Makes the device the one that was saved, by this version or an earlier one. Refuses bytes that are the save of no
- * device of this configuration, among them each save of this version in which one byte is changed, but for the version
- * to 1. Codes: OTHER_DEVICE, if the first 7 bytes are those above and the next 8 aren't version 1 or 2 with this
- * configuration; BAD_SAVE, after which the device is in its state after a reset.
+/* Makes the device the one that was saved. Refuses bytes that are the save of no device of this configuration, among
+ * them each save in which one byte is changed. Codes: OTHER_DEVICE, if the first 7 bytes are those above and the next
+ * 8 aren't this version with this configuration; BAD_SAVE, after which the device is in its state after a reset.
  *
- * In each save events, interrupts and INTEN have bits only of the device's events. A stopped channel has no program; one
- * that executes or waits has one. One that waits is at CPC before a DMAWFE of an event of the device, and has executed
- * fewer than 4294967295 instructions. No beat in CCR is wider than the bus. A save of version 1 has no checksum at its
- * end, and at most 68200 bytes: a flipped bit outside its channels' saves may be restored. */
+ * In each save events, interrupts and INTEN have bits only of the device's events. A stopped channel has no program;
+ * one that executes or waits has one. One that waits is at CPC before a DMAWFE of an event of the device, and has
+ * executed fewer than 4294967295 instructions. No beat in CCR is wider than the bus. */
 int32_t dma330_device_restore(dma330_device *device, const uint8_t *save, size_t len) DMA330_NO_NULLS;
 
 /* ---- without a controller ----
  *
- * Programs have the instructions DMAMOV, DMALD, DMAST, DMALP with DMALPEND, DMARMB, DMAWMB, DMANOP, DMASEV, DMAWFE and DMAEND.
- * On a device, and where `bus` is that of a device, they also have DMASTZ, DMAADDH, DMAADNH and the DMALPEND of a DMALPFE,
- * which have no text here (dma330_program.h has their bytes). All others, and the conditional forms, fail with
- * DMA330_UNDEF_INSTR. A text has one instruction a line, without a space before it, in capital letters and digits; a line that
- * begins with # and an empty line are skipped. A DMALPEND names the counter and how many bytes before it the loop begins. This
- * text copies 1024 bytes as 4 bursts of 16 beats of 16 bytes:
+ * Programs have the instructions DMAMOV, DMALD, DMAST, DMALP with DMALPEND, DMARMB, DMAWMB, DMANOP, DMASEV, DMAWFE and
+ * DMAEND. On a device, and where `bus` is that of a device, they also have DMASTZ, DMAADDH, DMAADNH and the DMALPEND
+ * of a DMALPFE, which have no text here (dma330_program.h has their bytes). All others, and the conditional forms,
+ * fail with DMA330_UNDEF_INSTR. A text has one instruction a line, without a space before it, in capital letters and
+ * digits; a line that begins with # and an empty line are skipped. A DMALPEND names the counter and how many bytes
+ * before it the loop begins. This text copies 1024 bytes as 4 bursts of 16 beats of 16 bytes:
  *
  *     DMAMOV SAR 0x80001000
  *     DMAMOV DAR 0x80002000
@@ -911,64 +904,57 @@ int32_t dma330_device_restore(dma330_device *device, const uint8_t *save, size_t
 /* Writes DMA330_VERSION and a zero byte, and its length without that byte. Codes: BUFFER_TOO_SMALL. */
 int32_t dma330_version(char *out, size_t room, size_t *len) DMA330_NO_NULLS;
 
-/* Runs a program alone over the caller's memory, without marks and with all flags clear, for at most `limit` instructions,
- * and writes how it ended. The program may not lie inside the memory. Codes: SIZE_OUT_OF_RANGE, PROGRAM_TOO_LONG,
- * NO_MEMORY. */
+/* Runs a program alone over the caller's memory, with all flags clear, for at most `limit` instructions, and writes
+ * how it ended. The program may not lie inside the memory. Codes: SIZE_OUT_OF_RANGE, PROGRAM_TOO_LONG, NO_MEMORY. */
 int32_t dma330_run_program(const uint8_t *program, size_t len, uint8_t *memory, size_t size, uint32_t limit,
                            dma330_run_end *end) DMA330_NO_NULLS;
 
-/* Explains a program, whatever SAR, DAR, CCR, LC0 and LC1 are when it begins: writes which bytes it reads (`src`) and
- * where it stores them (`dst`), each list in the order of the run, the events that it waits for and signals, and the
- * numbers of all. A register isn't known until the program sets it, since a device keeps its registers over a DMAGO, so
- * another program may have left anything there. An instruction that uses a register before that is refused (causes
- * UNSET_SAR to UNSET_LC1). Byte number p that it reads is byte number p that it stores; no byte is stored twice, or where one is
- * read. `bus` is 0 for a channel of this library, or 32, 64 or 128 for one of a device. The call runs the program once,
- * without a memory, for at most `most` instructions: their order and addresses are the same in each memory. So a
- * channel that runs the program copies these bytes, if the regions have all these addresses, none
- * that it writes is read-only, no mark lies there, and nobody else writes there meanwhile. If UNEXPLAINED is returned,
- * the program isn't such a copy in at most `most` instructions: the explanation has the cause, the offset, and how many
- * instructions come before it. For BUFFER_TOO_SMALL the explanation is that of DMA330_OK, so the numbers are the room
- * that is needed. Only DMA330_OK writes the lists, from their fronts.
- * Each call writes the same items for a program; no two neighbours of a list could be one item.
+/* Explains a program: writes which bytes it reads (`src`) and where it stores them (`dst`), which it sets to 0
+ * (`zeros`, by DMASTZ), each list in the order of the run, the events that it waits for and signals, and the numbers
+ * of all. Byte number p that it reads is byte number p that it stores; no byte is stored twice, set to 0 twice or
+ * stored and set to 0, and none where one is read. `bus` is 0 for a channel of this library, or 32, 64 or 128 for one
+ * of a device.
  *
- * `most` bounds what a program of somebody else can cost. The time is proportional to the executed instructions, and at
- * the end the ranges that are stored are sorted. The call allocates up to 24 bytes for each executed DMAWFE and DMASEV,
- * 12 for a DMALD and 8 for a DMAST or DMASTZ that doesn't continue the range before it, at the end 8 more for each range
- * that is stored, and up to three times that while a list grows; all is freed when it returns.
+ * The program begins with the registers of `start` that are known. What is found holds whatever the others are: an
+ * instruction that uses one of them before the program sets it is refused (causes UNSET_SAR to UNSET_LC1). The call
+ * runs the program once, without a memory, for at most `most` instructions: their order and addresses are the same in
+ * each memory. So a channel that runs the program does exactly this, if the regions have all these addresses, none
+ * that it writes is read-only, no error is injected there, and nobody else writes there meanwhile. If UNEXPLAINED is
+ * returned, the program does nothing of this kind in at most `most` instructions: the explanation has the cause, the
+ * offset, and how many instructions come before it. For BUFFER_TOO_SMALL the explanation is that of DMA330_OK, so the
+ * numbers are the room that is needed. Only DMA330_OK writes the lists, each from its first item on. Each call writes
+ * the same items for a program; no two neighbours of a list could be one item.
  *
- * Codes: BAD_CONFIG for another bus, PROGRAM_TOO_LONG, NO_MEMORY, UNEXPLAINED, BUFFER_TOO_SMALL. */
-int32_t dma330_explain(const uint8_t *program, size_t len, uint32_t bus, uint32_t most, dma330_repeated *src,
-                       size_t src_room, dma330_segment *dst, size_t dst_room, dma330_happening *happenings,
-                       size_t happenings_room, dma330_explanation *explanation) DMA330_NO_NULLS;
+ * `most` bounds what a program of somebody else can cost. The time is proportional to the executed instructions, and
+ * at the end the ranges that are stored are sorted. The call allocates up to 24 bytes for each executed DMAWFE and
+ * DMASEV, 12 for a DMALD and 8 for a DMAST or DMASTZ that doesn't continue the range before it, at the end 8 more for
+ * each range that is stored, and up to three times that while a list grows; all is freed when it returns.
+ *
+ * Codes: BAD_CONFIG for another bus, for a number that `known` can't be, and for a known CCR that no channel on the
+ * bus has; PROGRAM_TOO_LONG, NO_MEMORY, UNEXPLAINED, BUFFER_TOO_SMALL. */
+int32_t dma330_explain(const uint8_t *program, size_t len, uint32_t bus, const dma330_start *start, uint32_t most,
+                       dma330_repeated *src, size_t src_room, dma330_segment *dst, size_t dst_room,
+                       dma330_segment *zeros, size_t zeros_room, dma330_event *events, size_t events_room,
+                       dma330_explanation *explanation) DMA330_NO_NULLS;
 
-/* Explains a program with all that it does: also which bytes its DMASTZ set to 0 (`zeros`), in the order of the run. No
- * byte is set to 0 twice, or also read or copied to. The program begins with the SAR, DAR, CCR, LC0 and LC1 of `start`,
- * whose other members aren't read, as in a device's channel, whose registers stay over a DMAGO. The rest is as in
- * dma330_explain. Codes: those of dma330_explain, and BAD_CONFIG also for a CCR that no channel on
- * the bus has. Since 1.6.0. */
-int32_t dma330_explain_work(const uint8_t *program, size_t len, uint32_t bus, const dma330_registers *start, uint32_t most,
-                            dma330_repeated *src, size_t src_room, dma330_segment *dst, size_t dst_room,
-                            dma330_segment *zeros, size_t zeros_room, dma330_moment *moments, size_t moments_room,
-                            dma330_work *work) DMA330_NO_NULLS;
-
-/* Writes the program of a copy, the one that dma330_channel_load_copy loads if `bus` is 0; else one for a device with a bus
- * of 32, 64 or 128 bits, which never moves a beat that is wider. DMA330_MAX_PROGRAM bytes are room for each program.
- * Codes: BAD_CONFIG for another bus, those of dma330_submit up to the first NO_MEMORY, BUFFER_TOO_SMALL. */
-int32_t dma330_plan(const dma330_segment *src, size_t src_count, const dma330_segment *dst, size_t dst_count, int32_t wait,
-                    int32_t signal, uint32_t bus, uint8_t *out, size_t room, size_t *len) DMA330_NO_NULLS;
+/* Writes the program of a copy, the one that dma330_channel_load_copy loads if `bus` is 0; else one for a device with
+ * a bus of 32, 64 or 128 bits, which never moves a beat that is wider. DMA330_MAX_PROGRAM bytes are room for each
+ * program. Codes: BAD_CONFIG for another bus, those of dma330_submit up to the first NO_MEMORY, BUFFER_TOO_SMALL. */
+int32_t dma330_plan(const dma330_segment *src, size_t src_count, const dma330_segment *dst, size_t dst_count,
+                    int32_t wait, int32_t signal, uint32_t bus, uint8_t *out, size_t room, size_t *len) DMA330_NO_NULLS;
 
 /* Writes the program of a fill in the same way, with the same codes except TOTALS_DIFFER. */
 int32_t dma330_plan_fill(uint32_t src, const dma330_segment *dst, size_t dst_count, int32_t wait, int32_t signal,
                          uint32_t bus, uint8_t *out, size_t room, size_t *len) DMA330_NO_NULLS;
 
-/* Assembles a text, and writes the program's bytes and their number. Codes for a faulty line, whose number from 1 is then in
- * `*place`: BAD_MNEMONIC, BAD_OPERAND, NUMBER_OUT_OF_RANGE, and PROGRAM_TOO_LONG if the line goes past 8192 bytes. Other
- * codes: NO_MEMORY, BUFFER_TOO_SMALL. */
+/* Assembles a text, and writes the program's bytes and their number. Codes for a faulty line, whose number from 1 is
+ * then in `*place`: BAD_MNEMONIC, BAD_OPERAND, NUMBER_OUT_OF_RANGE, and PROGRAM_TOO_LONG if the line goes past 8192
+ * bytes. Other codes: NO_MEMORY, BUFFER_TOO_SMALL. */
 int32_t dma330_assemble(const char *text, size_t text_len, uint8_t *out, size_t room, size_t *len,
                         size_t *place) DMA330_NO_NULLS;
 
-/* Disassembles a program, and writes its text and the text's length. Each line ends with a line feed; no zero byte follows.
- * Codes for bytes that begin no instruction, the first offset of which is then in `*place`: CUT_INSTRUCTION,
+/* Disassembles a program, and writes its text and the text's length. Each line ends with a line feed; no zero byte
+ * follows. Codes for bytes that begin no instruction, the first offset of which is then in `*place`: CUT_INSTRUCTION,
  * UNKNOWN_INSTRUCTION, BAD_FIELD. Other codes: NO_MEMORY, BUFFER_TOO_SMALL. */
 int32_t dma330_disassemble(const uint8_t *program, size_t len, char *out, size_t room, size_t *text_len,
                            size_t *place) DMA330_NO_NULLS;
@@ -987,24 +973,23 @@ DMA330_ASSERT(outcome, sizeof(dma330_outcome) == 8 && offsetof(dma330_outcome, r
 DMA330_ASSERT(conflict, sizeof(dma330_conflict) == 8 && offsetof(dma330_conflict, cookie) == 4);
 DMA330_ASSERT(run, sizeof(dma330_run) == 8 && offsetof(dma330_run, stored) == 4);
 DMA330_ASSERT(report, sizeof(dma330_report) == 28 && offsetof(dma330_report, residue) == 24);
-DMA330_ASSERT(region, sizeof(dma330_region) == 32 && offsetof(dma330_region, bytes) == 8 && offsetof(dma330_region, len) == 16
-              && offsetof(dma330_region, read_only) == 24);
+DMA330_ASSERT(region, sizeof(dma330_region) == 32 && offsetof(dma330_region, bytes) == 8
+              && offsetof(dma330_region, len) == 16 && offsetof(dma330_region, read_only) == 24);
 DMA330_ASSERT(channel, sizeof(dma330_channel) == 16 && offsetof(dma330_channel, is_open) == 8);
 DMA330_ASSERT(channel_report, sizeof(dma330_channel_report) == 28 && offsetof(dma330_channel_report, written) == 20);
 DMA330_ASSERT(registers, sizeof(dma330_registers) == 32 && offsetof(dma330_registers, is_loaded) == 18
               && offsetof(dma330_registers, taken) == 20 && offsetof(dma330_registers, stored) == 24);
 DMA330_ASSERT(device, sizeof(dma330_device) == 16 && offsetof(dma330_device, is_open) == 8);
 DMA330_ASSERT(device_config, sizeof(dma330_device_config) == 24 && offsetof(dma330_device_config, revision) == 20);
-DMA330_ASSERT(device_turn, sizeof(dma330_device_turn) == 16 && offsetof(dma330_device_turn, can_step) == 12);
-DMA330_ASSERT(device_rows, sizeof(dma330_device_rows) == 40 && offsetof(dma330_device_rows, can_step) == 24
-              && offsetof(dma330_device_rows, taken) == 32);
+DMA330_ASSERT(device_turn, sizeof(dma330_device_turn) == 24 && offsetof(dma330_device_turn, taken) == 8
+              && offsetof(dma330_device_turn, can_step) == 20);
+DMA330_ASSERT(device_rows, sizeof(dma330_device_rows) == 40 && offsetof(dma330_device_rows, steps) == 32);
 DMA330_ASSERT(run_end, sizeof(dma330_run_end) == 20 && offsetof(dma330_run_end, pc) == 16);
 DMA330_ASSERT(repeated, sizeof(dma330_repeated) == 12 && offsetof(dma330_repeated, times) == 8);
-DMA330_ASSERT(happening, sizeof(dma330_happening) == 16 && offsetof(dma330_happening, stored) == 8);
-DMA330_ASSERT(explanation, sizeof(dma330_explanation) == 48 && offsetof(dma330_explanation, size) == 24
-              && offsetof(dma330_explanation, cause) == 40);
-DMA330_ASSERT(moment, sizeof(dma330_moment) == 24 && offsetof(dma330_moment, cleared) == 16);
-DMA330_ASSERT(work, sizeof(dma330_work) == 64 && offsetof(dma330_work, copied) == 32 && offsetof(dma330_work, addr) == 60);
+DMA330_ASSERT(start, sizeof(dma330_start) == 20 && offsetof(dma330_start, lc1) == 17);
+DMA330_ASSERT(event, sizeof(dma330_event) == 24 && offsetof(dma330_event, cleared) == 16);
+DMA330_ASSERT(explanation, sizeof(dma330_explanation) == 64 && offsetof(dma330_explanation, copied) == 32
+              && offsetof(dma330_explanation, addr) == 60);
 /* Alignments, which #pragma pack changes: where a member lies after a char. */
 #define DMA330_ALIGNED(type, bytes) \
     struct dma330_after_char_##type { \

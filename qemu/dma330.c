@@ -128,8 +128,7 @@ static void pl330_set_irqs(PL330State *s)
 {
     uint32_t irqs = 0, irq_abort = 0;
 
-    dma330_device_irqs(&s->device, &irqs);
-    dma330_device_irq_abort(&s->device, &irq_abort);
+    dma330_device_lines(&s->device, &irqs, &irq_abort);
     trace_dma330_irqs(irqs, irq_abort);
     qemu_set_irq(s->irq_abort, irq_abort);
     for (uint32_t n = 0; n < s->config.events; n++) {
@@ -243,22 +242,22 @@ static bool pl330_turn(PL330State *s, uint32_t *steps)
 
     pl330_check(dma330_device_step_rows(&s->device, n, most, s->lent.regions,
                                         s->lent.count, &rows));
-    for (uint32_t k = 0; rows.written.len && k < rows.count; k++) {
-        dma330_segment row = { rows.written.addr + k * rows.pitch,
-                               rows.written.len };
+    for (uint32_t k = 0; rows.turn.written.len && k < rows.count; k++) {
+        dma330_segment row = { rows.turn.written.addr + k * rows.pitch,
+                               rows.turn.written.len };
 
         trace_dma330_store(n, row.addr, row.len);
         pl330_mark_written(s, row);
     }
-    if (rows.lines_changed) {
+    if (rows.turn.lines_changed) {
         pl330_set_irqs(s);
     }
-    *steps += rows.count * rows.taken;
-    if (rows.taken && pl330_status(s, n) == PL330_WAITING) {
+    *steps += rows.count * rows.turn.taken;
+    if (rows.turn.taken && pl330_status(s, n) == PL330_WAITING) {
         *steps -= 1;
     }
     s->next_channel = (n + 1) % s->config.channels;
-    return rows.can_step;
+    return rows.turn.can_step;
 }
 
 /*

@@ -80,7 +80,7 @@ public:
         stale_ = true;
     }
 
-    // The library's device, for dma330_device_explain_work, _save and _restore. While the time of a turn passes, it is
+    // The library's device, for dma330_device_explain, _save and _restore. While the time of a turn passes, it is
     // in its state after the turn.
     dma330_device *device() { return &device_; }
 
@@ -327,13 +327,13 @@ private:
         dma330_device_rows rows = {};
         ask_for_memory();
         check(dma330_device_step_rows(&device_, channel, most_, regions_, count_, &rows));
-        for (std::uint32_t k = 0; on_written && rows.written.len > 0 && k < rows.count; k++)
-            on_written(rows.written.addr + k * rows.pitch, rows.written.len);
+        for (std::uint32_t k = 0; on_written && rows.turn.written.len > 0 && k < rows.count; k++)
+            on_written(rows.turn.written.addr + k * rows.pitch, rows.turn.written.len);
         const bool waits = before != DMA330_CSR_EXECUTING && status(channel) == DMA330_CSR_WAITING_FOR_EVENT;
         // (a program that has executed 2^32 - 1 instructions fails without a step)
-        if (!rows.lines_changed && (rows.taken == 0 || (rows.taken == 1 && waits)))
+        if (!rows.turn.lines_changed && (rows.turn.taken == 0 || (rows.turn.taken == 1 && waits)))
             return false;
-        pass(sc_core::sc_time::from_value(step_.value() * rows.taken * rows.count), rows.lines_changed);
+        pass(sc_core::sc_time::from_value(step_.value() * rows.turn.taken * rows.count), rows.turn.lines_changed);
         return true;
     }
 
@@ -359,8 +359,7 @@ private:
     // Sets the lines to what they are now, before a turn begins whose time has yet to pass.
     void set_lines()
     {
-        check(dma330_device_irqs(&device_, &lines_));
-        check(dma330_device_irq_abort(&device_, &abort_));
+        check(dma330_device_lines(&device_, &lines_, &abort_));
         moved_.notify(sc_core::SC_ZERO_TIME);
     }
 

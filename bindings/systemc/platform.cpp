@@ -45,10 +45,11 @@ struct driver : initiator {
             wait(100, SC_NS);
         go(DMA[n], 0, at);
         dma330_repeated reads;
-        dma330_segment writes;
-        dma330_happening signal;
+        dma330_segment writes, zeros;
+        dma330_event signal;
+        const dma330_start any = DMA330_ANY_REGISTERS;
         dma330_explanation found = {};
-        dma330_explain(program, len, 64, 100000, &reads, 1, &writes, 1, &signal, 1, &found);
+        dma330_explain(program, len, 64, &any, 100000, &reads, 1, &writes, 1, &zeros, 1, &signal, 1, &found);
         return sc_time(found.steps * STEP_NS, SC_NS);
     }
 

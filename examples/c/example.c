@@ -45,7 +45,7 @@ static void copy_three_bytes(void)
     expect_ok(dma330_issue(&controller, 0, &issued), "dma330_issue");
     do
         expect_ok(dma330_step(&controller, 0, 5, &report), "dma330_step");
-    while (report.turn == DMA330_STARTED || report.turn == DMA330_MOVED);
+    while (report.last == DMA330_STARTED || report.last == DMA330_MOVED);
     expect_ok(dma330_result(&controller, 0, cookie, &outcome), "dma330_result");
     printf("copy finished %lu %s residue %lu\n", (unsigned long)cookie,
            outcome.result == DMA330_NO_ERROR ? "NoError" : "with an error", (unsigned long)outcome.residue);
@@ -115,11 +115,11 @@ static uint32_t read_register(device *dev, uint8_t channel, uint32_t which)
 
 static void print_turn(device *dev, uint8_t channel, const dma330_report *report)
 {
-    if (report->turn == DMA330_WAITING && dev->last_turns[channel] != DMA330_WAITING)
+    if (report->last == DMA330_WAITING && dev->last_turns[channel] != DMA330_WAITING)
         printf("channel %d waits for event %lu\n", channel, (unsigned long)report->event);
-    if (report->turn == DMA330_FINISHED)
+    if (report->last == DMA330_FINISHED)
         printf("channel %d finished cookie %lu\n", channel, (unsigned long)report->cookie);
-    dev->last_turns[channel] = report->turn;
+    dev->last_turns[channel] = report->last;
 }
 
 /* Takes some steps of each channel: the device's part of a round of the main loop. */

@@ -49,8 +49,8 @@ static uint32_t copy_in_ram(dma330_controller *dma, uint8_t *ram, dma330_segment
     if (dma330_write(dma, from.addr, ram + from.addr, from.len, &conflict) == DMA330_OK)
         dma330_issue(dma, 0, &count);
     while (dma330_step(dma, 0, MOST, &report) == DMA330_OK)
-        if (report.turn != DMA330_STARTED && report.turn != DMA330_MOVED) {
-            copied = report.turn == DMA330_FINISHED ? from.len - report.residue : 0;
+        if (report.last != DMA330_STARTED && report.last != DMA330_MOVED) {
+            copied = report.last == DMA330_FINISHED ? from.len - report.residue : 0;
             break;
         }
     dma330_read(dma, to.addr, ram + to.addr, copied, &conflict);

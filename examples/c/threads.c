@@ -57,7 +57,7 @@ static void copy_upward(const processor *p, uint32_t n)
     do {
         take(p->board);
         expect(dma330_step(&p->board->dma, p->channel, MOST, &report) == DMA330_OK, "not stepped");
-        expect(report.turn == DMA330_STARTED || report.turn == DMA330_MOVED || report.turn == DMA330_FINISHED,
+        expect(report.last == DMA330_STARTED || report.last == DMA330_MOVED || report.last == DMA330_FINISHED,
                "the copy doesn't go on");
         expect(rounds++ < ROUNDS, "the copy doesn't end");
         state = dma330_status(&p->board->dma, p->channel, cookie);

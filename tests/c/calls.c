@@ -32,15 +32,13 @@ INVOKE(steps, dma330_steps(&p->controller, &o->wide))
 INVOKE(history_entries, dma330_history_entries(&p->controller, &o->wide))
 INVOKE(history_bytes, dma330_history_bytes(&p->controller, &o->wide))
 INVOKE(running_count, dma330_running_count(&p->controller, &o->number))
-INVOKE(unmark, dma330_unmark(&p->controller))
+INVOKE(uninject_errors, dma330_uninject_errors(&p->controller))
 INVOKE(raise, dma330_raise(&p->controller, (uint8_t)a->numbers[0]))
 INVOKE(checkpoint, dma330_checkpoint(&p->controller, &o->conflict))
 INVOKE(version, dma330_version((char *)o->bytes, a->numbers[0], &o->len))
 INVOKE(run_program, dma330_run_program(a->bytes, a->len, p->ram, a->numbers[0], a->numbers[1], &o->end))
 INVOKE(assemble, dma330_assemble(a->text, a->text_len, o->bytes, a->numbers[0], &o->len, &o->place))
 INVOKE(disassemble, dma330_disassemble(a->bytes, a->len, (char *)o->bytes, a->numbers[0], &o->len, &o->place))
-INVOKE(explain, dma330_explain(a->bytes, a->len, a->numbers[0], a->numbers[1], o->src, a->numbers[2], o->dst, a->numbers[2],
-                               o->happenings, a->numbers[2], &o->explanation))
 INVOKE(plan, dma330_plan(a->src, a->src_count, a->dst, a->dst_count, a->wait, a->signal, a->numbers[0], o->bytes,
                          a->numbers[1], &o->len))
 INVOKE(plan_fill, dma330_plan_fill(a->from, a->dst, a->dst_count, a->wait, a->signal, a->numbers[0], o->bytes,
@@ -53,6 +51,16 @@ static int32_t invoke_open(runner *p, const arguments *a, outputs *o)
     if (code == DMA330_OK)
         p->size = a->numbers[0];
     return code;
+}
+
+/* Explains a program that may begin with any registers. */
+static int32_t invoke_explain(runner *p, const arguments *a, outputs *o)
+{
+    static const dma330_start any = DMA330_ANY_REGISTERS;
+    size_t room = a->numbers[2];
+    (void)p;
+    return dma330_explain(a->bytes, a->len, a->numbers[0], &any, a->numbers[1], o->src, room, o->dst, room, o->zeros, room,
+                          o->events, room, &o->explanation);
 }
 
 static int32_t invoke_close(runner *p, const arguments *a, outputs *o)
@@ -81,13 +89,13 @@ static int32_t invoke_status(runner *p, const arguments *a, outputs *o)
     return state < 0 ? state : DMA330_OK;
 }
 
-static int32_t invoke_mark(runner *p, const arguments *a, outputs *o)
+static int32_t invoke_inject_error(runner *p, const arguments *a, outputs *o)
 {
     dma330_segment range;
     (void)o;
     range.addr = a->numbers[1];
     range.len = a->numbers[2];
-    return dma330_mark(&p->controller, a->numbers[0], range);
+    return dma330_inject_error(&p->controller, a->numbers[0], range);
 }
 
 /* ---- what a call prints ---- */
@@ -115,16 +123,16 @@ static void append_outcome(answer *to, uint32_t result, uint32_t residue)
     append(to, " residue %lu", (unsigned long)residue);
 }
 
-void append_turn(answer *to, const dma330_report *report)
+void append_last(answer *to, const dma330_report *report)
 {
-    append_lower(to, dma330_turn_name(report));
-    if (report->turn == DMA330_HELD)
+    append_lower(to, dma330_last_step_name(report->last));
+    if (report->last == DMA330_HELD)
         append(to, " %lu", (unsigned long)report->channel);
-    if (report->turn == DMA330_STARTED || report->turn == DMA330_HELD || report->turn == DMA330_FINISHED)
+    if (report->last == DMA330_STARTED || report->last == DMA330_HELD || report->last == DMA330_FINISHED)
         append(to, " %lu", (unsigned long)report->cookie);
-    if (report->turn == DMA330_WAITING)
+    if (report->last == DMA330_WAITING)
         append(to, " %lu", (unsigned long)report->event);
-    if (report->turn != DMA330_FINISHED)
+    if (report->last != DMA330_FINISHED)
         return;
     append(to, " ");
     append_outcome(to, report->result, report->residue);
@@ -132,13 +140,13 @@ void append_turn(answer *to, const dma330_report *report)
 
 int goes_on(const dma330_report *report)
 {
-    return report->turn == DMA330_STARTED || report->turn == DMA330_MOVED;
+    return report->last == DMA330_STARTED || report->last == DMA330_MOVED;
 }
 
 static void print_report(answer *to, const arguments *a, const outputs *o)
 {
     append(to, "steps %u taken %lu ", a->channel, (unsigned long)o->report.taken);
-    append_turn(to, &o->report);
+    append_last(to, &o->report);
 }
 
 static void print_status(answer *to, const arguments *a, const outputs *o)
@@ -165,11 +173,11 @@ static void print_read(answer *to, const arguments *a, const outputs *o)
 
 static void print_end(answer *to, const arguments *a, const outputs *o)
 {
-    static const char *const ends[] = {"?", "ended", "out_of_turns", "waiting", "fault "};
+    static const char *const ends[] = {"out_of_steps", "ended", "waiting", "fault "};
     (void)a;
     append(to, "%s", ends[o->end.end]);
     if (o->end.end == DMA330_END_ENDED)
-        append(to, " %lu", (unsigned long)o->end.turns);
+        append(to, " %lu", (unsigned long)o->end.steps);
     if (o->end.end == DMA330_END_WAITING)
         append(to, " %lu", (unsigned long)o->end.event);
     if (o->end.end != DMA330_END_FAULT)
@@ -200,16 +208,20 @@ static void print_explained(answer *to, const arguments *a, const outputs *o)
     const dma330_explanation *e = &o->explanation;
     size_t n;
     (void)a;
-    append(to, "%lu %lu", (unsigned long)e->size, (unsigned long)e->steps);
+    append(to, "%lu %lu", (unsigned long)e->copied, (unsigned long)e->steps);
     for (n = 0; n < e->src_len; n++)
         append(to, " 0x%lX+%lux%lu", (unsigned long)o->src[n].addr, (unsigned long)o->src[n].len,
                (unsigned long)o->src[n].times);
     append(to, " to");
     for (n = 0; n < e->dst_len; n++)
         append(to, " 0x%lX+%lu", (unsigned long)o->dst[n].addr, (unsigned long)o->dst[n].len);
-    for (n = 0; n < e->happenings_len; n++)
-        append(to, " %s %lu at %lu", kinds[o->happenings[n].kind], (unsigned long)o->happenings[n].event,
-               (unsigned long)o->happenings[n].stored);
+    if (e->zeros_len > 0)
+        append(to, " zeros");
+    for (n = 0; n < e->zeros_len; n++)
+        append(to, " 0x%lX+%lu", (unsigned long)o->zeros[n].addr, (unsigned long)o->zeros[n].len);
+    for (n = 0; n < e->events_len; n++)
+        append(to, " %s %lu at %lu", kinds[o->events[n].kind], (unsigned long)o->events[n].event,
+               (unsigned long)(o->events[n].copied + o->events[n].cleared));
 }
 
 /* ---- the calls ---- */
@@ -235,8 +247,8 @@ static const call calls[] = {
     {"history_entries", "", invoke_history_entries, print_wide},
     {"history_bytes", "", invoke_history_bytes, print_wide},
     {"running_count", "", invoke_running_count, print_number},
-    {"mark", "kr", invoke_mark, print_ok},
-    {"unmark", "", invoke_unmark, print_ok},
+    {"inject_error", "kr", invoke_inject_error, print_ok},
+    {"uninject_errors", "", invoke_uninject_errors, print_ok},
     {"raise", "n", invoke_raise, print_ok},
     {"checkpoint", "", invoke_checkpoint, print_ok},
     {"version", "n", invoke_version, print_text},
@@ -321,15 +333,15 @@ static int has_explanation(const call *c, int32_t code)
 /* Return whether all members that the turn, or the end, doesn't have are 0. */
 static int other_members_are_0(const dma330_report *r)
 {
-    int finished = r->turn == DMA330_FINISHED, held = r->turn == DMA330_HELD;
-    return (held || r->channel == 0) && (held || finished || r->turn == DMA330_STARTED || r->cookie == 0) &&
-           (r->turn == DMA330_WAITING || r->event == 0) && (finished || (r->result == 0 && r->residue == 0));
+    int finished = r->last == DMA330_FINISHED, held = r->last == DMA330_HELD;
+    return (held || r->channel == 0) && (held || finished || r->last == DMA330_STARTED || r->cookie == 0) &&
+           (r->last == DMA330_WAITING || r->event == 0) && (finished || (r->result == 0 && r->residue == 0));
 }
 
 static int other_members_of_end_are_0(const dma330_run_end *e)
 {
     int faulted = e->end == DMA330_END_FAULT;
-    return (e->end == DMA330_END_ENDED || e->turns == 0) && (e->end == DMA330_END_WAITING || e->event == 0) &&
+    return (e->end == DMA330_END_ENDED || e->steps == 0) && (e->end == DMA330_END_WAITING || e->event == 0) &&
            (faulted || (e->fault == 0 && e->pc == 0));
 }
 

@@ -20,7 +20,8 @@ typedef struct outputs {
     size_t place;
     dma330_repeated src[MOST_ITEMS];
     dma330_segment dst[MOST_ITEMS];
-    dma330_happening happenings[MOST_ITEMS];
+    dma330_segment zeros[MOST_ITEMS];
+    dma330_event events[MOST_ITEMS];
     uint8_t bytes[MOST_TEXT];
 } outputs;
 
@@ -67,9 +68,9 @@ int32_t make_call(runner *p, const call *c);
 void append_refusal(const runner *p, const call *c, int32_t code, answer *to);
 
 /* Writes what a step did. */
-void append_turn(answer *to, const dma330_report *report);
+void append_last(answer *to, const dma330_report *report);
 
-/* Returns whether dma330_step goes on after this turn. */
+/* Returns whether dma330_step goes on after this step. */
 int goes_on(const dma330_report *report);
 
 /* Returns whether a call has returned a code since the program began. */

@@ -83,7 +83,7 @@ static int replace_channel(void)
     int is_ok = dma330_channel_save(&channel, save, sizeof save, &len) == DMA330_OK && len <= sizeof save &&
                 dma330_channel_open(&next) == DMA330_OK && dma330_channel_restore(&next, save, len) == DMA330_OK;
     for (n = 0; n < mark_count; n++)
-        is_ok = is_ok && dma330_channel_mark(&next, kinds[n], marks[n]) == DMA330_OK;
+        is_ok = is_ok && dma330_channel_inject_error(&next, kinds[n], marks[n]) == DMA330_OK;
     dma330_channel_close(&channel);
     channel = next;
     return is_ok;
@@ -157,28 +157,28 @@ static int32_t invoke_step(void)
             return code;
         taken += outputs.report.taken;
         written = joined(written, outputs.report.written);
-        if (outputs.report.turn == DMA330_CHANNEL_NO_STEP && taken > 0)
-            outputs.report.turn = DMA330_CHANNEL_MOVED; /* what the step before it did */
-    } while (outputs.report.turn == DMA330_CHANNEL_MOVED && outputs.report.taken > 0 && taken < most);
+        if (outputs.report.last == DMA330_NO_STEP && taken > 0)
+            outputs.report.last = DMA330_MOVED; /* what the step before it did */
+    } while (outputs.report.last == DMA330_MOVED && outputs.report.taken > 0 && taken < most);
     outputs.report.taken = taken;
     outputs.report.written = written;
     return code;
 }
 
-static int32_t invoke_mark(void)
+static int32_t invoke_inject_error(void)
 {
     dma330_segment range = {given.numbers[1], given.numbers[2]};
-    int32_t code = dma330_channel_mark(&channel, given.numbers[0], range);
+    int32_t code = dma330_channel_inject_error(&channel, given.numbers[0], range);
     kinds[mark_count] = given.numbers[0];
     marks[mark_count] = range;
     mark_count += code == DMA330_OK;
     return code;
 }
 
-static int32_t invoke_unmark(void)
+static int32_t invoke_uninject_errors(void)
 {
     mark_count = 0;
-    return dma330_channel_unmark(&channel);
+    return dma330_channel_uninject_errors(&channel);
 }
 
 /* Saves the channel to `saved`. Checks that a buffer with one byte less than the save is too small. */
@@ -230,8 +230,8 @@ static const struct call {
     {"call", "n", invoke_call, "OK"},
     {"stop", "", invoke_stop, "OK NOT_OPEN"},
     {"registers", "", invoke_registers, "OK NOT_OPEN"},
-    {"mark", "kr", invoke_mark, "OK NOT_OPEN BAD_KIND BAD_RANGE NO_MEMORY"},
-    {"unmark", "", invoke_unmark, "OK NOT_OPEN"},
+    {"inject_error", "kr", invoke_inject_error, "OK NOT_OPEN BAD_ACCESS BAD_RANGE NO_MEMORY"},
+    {"uninject_errors", "", invoke_uninject_errors, "OK NOT_OPEN"},
     {"save", "n", invoke_save, "OK NOT_OPEN BUFFER_TOO_SMALL"},
     {"restore", "", invoke_restore, "OK NOT_OPEN"},
     {"restore_bytes", "b", invoke_restore_bytes, "OK BAD_SAVE"},
@@ -259,10 +259,10 @@ static void compare_codes(void)
 static void append_report(answer *to, const dma330_channel_report *r)
 {
     append(to, "%lu ", (unsigned long)r->taken);
-    append_lower(to, dma330_channel_turn_name(r));
-    if (r->turn == DMA330_CHANNEL_WAITING || r->turn == DMA330_CHANNEL_SIGNALLED || r->event != 0)
+    append_lower(to, dma330_last_step_name(r->last));
+    if (r->last == DMA330_WAITING || r->last == DMA330_SIGNALLED || r->event != 0)
         append(to, " %lu", (unsigned long)r->event);
-    if (r->turn == DMA330_CHANNEL_FAULT || r->fault != 0) {
+    if (r->last == DMA330_FAULT || r->fault != 0) {
         append(to, " ");
         append_camel(to, dma330_fault_name(r->fault));
     }

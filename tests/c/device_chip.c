@@ -185,8 +185,8 @@ static void keeps_its_registers(void)
     };
     static const uint8_t second[] = {DMALD, DMAST, DMALPEND, 2, DMAEND};
     dma330_repeated src = {0, 0, 0};
-    dma330_segment dst = {0, 0};
-    dma330_happening event;
+    dma330_segment dst = {0, 0}, zeros;
+    dma330_event event;
     dma330_explanation found;
 
     set_up(&m, plain(2, 4, false));
@@ -201,9 +201,9 @@ static void keeps_its_registers(void)
     check(get(&m, CPC + 8) == LOW + 0x100 && get(&m, SAR + 0x20) == FROM && get(&m, CCR + 0x20) == BURSTS_16,
           "it stays", 0);
     allocations_left = 1000;
-
-             check(dma330_device_explain(&m.device, 1, 100, &src, 1, &dst, 1, &event, 1, &found) == DMA330_OK && found.size == 80 &&
-              found.steps == 16 && src.addr == FROM && src.len == 80 && dst.addr == TO && dst.len == 80, "it is explained", 0);
+    check(dma330_device_explain(&m.device, 1, 100, &src, 1, &dst, 1, &zeros, 1, &event, 1, &found) == DMA330_OK &&
+              found.copied == 80 && found.steps == 16 && src.addr == FROM && src.len == 80 && dst.addr == TO && dst.len == 80,
+          "it is explained", 0);
     allocations_left = 0;
     memcpy(byte_at(m.wanted, TO), byte_at(m.bytes, FROM), 80);
     check(!run(&m, 1) && is_ram_wanted(&m) && get(&m, FTR + 4) == 0,

@@ -357,12 +357,17 @@ static void writes_counts(void)
     tear_down(&m);
 }
 
+static bool is_sevens(const dma330_device_turn *t)
+{
+    return t->written.addr == 7 && t->written.len == 7 && t->taken == 7 && t->lines_changed == 7 && t->can_step == 7;
+}
+
 static void refuses_a_closed_device(dma330_device *device)
 {
-    dma330_device_turn t = {{7, 7}, 7, 7};
+    dma330_device_turn t = {{7, 7}, 7, 7, 7};
     dma330_device_rows rows, unwritten;
     dma330_registers r = {7, 7, 7, 7, 7, 7, 7, 7, 7};
-    uint32_t value = 7;
+    uint32_t value = 7, line = 7;
 
     memset(&rows, 7, sizeof rows);
     memcpy(&unwritten, &rows, sizeof rows);
@@ -372,35 +377,36 @@ static void refuses_a_closed_device(dma330_device *device)
     check(dma330_device_read(device, CR1, &value) == DMA330_NOT_OPEN && value == 7, "a read", 0);
     check(dma330_device_write(device, INTEN, 1, m.regions, REGIONS) == DMA330_NOT_OPEN, "a write", 0);
     check(dma330_device_step(device, 0, 1, m.regions, REGIONS, &t) == DMA330_NOT_OPEN, "a turn", 0);
-    check(t.written.addr == 7 && t.written.len == 7 && t.lines_changed == 7 && t.can_step == 7, "its report", 0);
+    check(is_sevens(&t), "its report", 0);
     check(dma330_device_step_rows(device, 0, 1, m.regions, REGIONS, &rows) == DMA330_NOT_OPEN, "several turns", 0);
     check(memcmp(&rows, &unwritten, sizeof rows) == 0, "their report", 0);
     check(dma330_device_registers(device, 0, &r) == DMA330_NOT_OPEN && r.taken == 7, "registers", 0);
-    check(dma330_device_irqs(device, &value) == DMA330_NOT_OPEN && value == 7, "the lines", 0);
-    check(dma330_device_irq_abort(device, &value) == DMA330_NOT_OPEN && value == 7, "a line", 0);
+    check(dma330_device_lines(device, &value, &line) == DMA330_NOT_OPEN && value == 7 && line == 7, "the lines", 0);
     check(dma330_device_can_step(device, &value) == DMA330_NOT_OPEN && value == 7, "a question", 0);
     check(device->device == NULL && device->is_open == 0, "it is as it was", 0);
 }
 
-/* Returns whether a write and a turn refuse the regions and change nothing, whatever they are for. */
+/* Returns whether a write to DBGCMD, which alone may read the regions, and a turn refuse them and change nothing, whatever they
+ * are for. The other writes here change nothing either. */
 static bool are_refused(const dma330_region *regions, size_t count)
 {
-    static const uint32_t offsets[] = {DBGCMD, INTEN, CR0, 1};
+    static const uint32_t offsets[] = {CR0, DBGSTATUS, DBGCMD + 1, 1};
     static dma330_region lent[65];
-    dma330_device_turn t = {{7, 7}, 7, 7};
+    dma330_device_turn t = {{7, 7}, 7, 7, 7};
     dma330_device_rows rows, unwritten;
     bool holds = true;
 
     memset(&rows, 7, sizeof rows);
     memcpy(&unwritten, &rows, sizeof rows);
     memcpy(lent, regions, count * sizeof regions[0]);
-    for (int n = 0; n < 4; n++)
-        holds = holds && dma330_device_write(&m.device, offsets[n], 0, lent, count) == DMA330_BAD_REGIONS;
+    for (uint32_t n = 0; n < 4; n++)
+        holds = holds && dma330_device_write(&m.device, DBGCMD, n, lent, count) == DMA330_BAD_REGIONS &&
+                dma330_device_write(&m.device, offsets[n], 0, lent, count) == DMA330_OK;
     for (uint32_t n = 0; n < 256; n += 5)
         holds = holds && dma330_device_step(&m.device, (uint8_t)n, n % 2, lent, count, &t) == DMA330_BAD_REGIONS;
     for (uint32_t n = 0; n < 256; n += 5)
         holds = holds && dma330_device_step_rows(&m.device, (uint8_t)n, n % 2, lent, count, &rows) == DMA330_BAD_REGIONS;
-    return holds && memcmp(&rows, &unwritten, sizeof rows) == 0 && t.written.addr == 7 && t.written.len == 7 && t.lines_changed == 7 && t.can_step == 7;
+    return holds && memcmp(&rows, &unwritten, sizeof rows) == 0 && is_sevens(&t);
 }
 
 static void refuses_regions(void)
@@ -424,8 +430,8 @@ static void refuses_regions(void)
         many[n] = region;
     }
     check(are_refused(many, 65), "65 regions", 0);
-    check(dma330_device_write(&m.device, CR0, 0, many, 64) == DMA330_OK, "64 regions", 0);
-    check(dma330_device_write(&m.device, CR0, 0, many, 0) == DMA330_OK, "no region", 0);
+    check(dma330_device_write(&m.device, DBGCMD, 1, many, 64) == DMA330_OK, "64 regions", 0);
+    check(dma330_device_write(&m.device, DBGCMD, 1, many, 0) == DMA330_OK, "no region", 0);
     check(is_ram_wanted(&m) && are_noted(REGISTERS), "nothing has changed", 0);
     tear_down(&m);
 }

@@ -146,17 +146,17 @@ static void test_steps(void)
  * write its report. */
 static void test_no_steps(void)
 {
-    dma330_device_rows rows = {{1, 1}, 2, 3, 4, 5, 6, 7};
+    dma330_device_rows rows = {{{1, 1}, 2, 3, 4}, 5, 6, 7};
 
     set_up_both(NULL, 0);
     check(dma330_device_step_rows(&m.device, 7, 1000, m.regions, 3, &rows) == DMA330_OK, "no such channel", 7);
-    check(rows.taken == 0 && rows.count == 1 && rows.written.len == 0, "which takes no step", 7);
-    rows.taken = 7;
+    check(rows.turn.taken == 0 && rows.count == 1 && rows.turn.written.len == 0, "which takes no step", 7);
+    rows.turn.taken = 7;
     m.regions[1].addr = LOW;
-    check(dma330_device_step_rows(&m.device, 0, 1000, m.regions, 3, &rows) == DMA330_BAD_REGIONS && rows.taken == 7,
+    check(dma330_device_step_rows(&m.device, 0, 1000, m.regions, 3, &rows) == DMA330_BAD_REGIONS && rows.turn.taken == 7,
           "no report without usable regions", 0);
     tear_down_both();
-    check(dma330_device_step_rows(&m.device, 0, 1000, m.regions, 0, &rows) == DMA330_NOT_OPEN && rows.taken == 7,
+    check(dma330_device_step_rows(&m.device, 0, 1000, m.regions, 0, &rows) == DMA330_NOT_OPEN && rows.turn.taken == 7,
           "no report of a closed device", 0);
 }
 

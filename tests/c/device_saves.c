@@ -359,7 +359,7 @@ static void needs_room(void)
     tear_down(&m);
 }
 
-/* A program that sets no CCR copies a byte at fixed addresses, since CCR is 0 in a save of 1.5.0. */
+/* A program that sets no CCR copies a byte at fixed addresses, since CCR is 0 in the kept save. */
 static void goes_on_with_its_registers(void)
 {
     uint32_t at = put_move(&m, put_move(&m, LOW, TO_SAR, LOW + 0x400), TO_DAR, NEXT + 0x800);
@@ -369,13 +369,12 @@ static void goes_on_with_its_registers(void)
     *byte_at(m.wanted, NEXT + 0x800) = *byte_at(m.bytes, LOW + 0x400);
     start(&m, 0, LOW);
     check(!run(&m, 0) && get(&m, CSR) == 0 && get(&m, CCR) == 0 && get(&m, SAR) == LOW + 0x400 &&
-          get(&m, DAR) == NEXT + 0x800 && is_ram_wanted(&m), "a DMAGO after an old save", 0);
+          get(&m, DAR) == NEXT + 0x800 && is_ram_wanted(&m), "a DMAGO after the kept save", 0);
     dma330_device_reset(&m.device);
 }
 
-/* A save of this layout's version 1, byte by byte as dma330.h says: INTEN and interrupt 0 are set, and the registers
- * of its one channel are 0, as they were after a reset. Later versions have to restore it; the save of what is restored is
- * of version 2. */
+/* A save of this layout, byte by byte as dma330.h says: INTEN and interrupt 0 are set, and the registers of its one channel
+ * are 0. Later versions have to restore it. */
 static void restores_this_layout(void)
 {
     enum { CHANNEL_SAVE = 60, CHANNEL_CCR = CHANNEL_SAVE + 20, CHANNEL_LEN = 52 };
@@ -391,21 +390,18 @@ static void restores_this_layout(void)
         0, 0, 0, 0, 0, 0, 0, 0, 0, 0, 0, 0, 0, 0, 0, 0, 0, 0, 0, 0,
         0, 0, 0, 0, 0, 0, 0, 0, 0, 0, 0, 0, 0, 0, 0, 0, 0, 0, 0, 0,
         0xCA, 0x01, 0x55, 0x52,                   /* Adler-32 of the 48 bytes before it */
+        0x9D, 0x06, 0x5D, 0x99,                   /* and of all bytes before it */
     };
     static save wanted;
 
-    memcpy(wanted.bytes, kept, sizeof kept);
-    wanted.bytes[VERSION] = 2;
-    wanted.len = sizeof kept + 4;
-    seal(&wanted);
+    memcpy(wanted.bytes, kept, wanted.len = sizeof kept);
     set_up(&m, plain(1, 1, false));
     check(dma330_device_restore(&m.device, kept, sizeof kept) == DMA330_OK, "a kept save", 0);
     check(get(&m, INTMIS) == 1 && get(&m, INTEN) == 1, "its interrupt", get(&m, INTMIS));
     goes_on_with_its_registers();
     check(dma330_device_restore(&m.device, kept, sizeof kept) == DMA330_OK, "once more", 0);
-    check(has(&m, &wanted), "its save in this version", 0);
-    dma330_device_reset(&m.device);
-    check(dma330_device_restore(&m.device, wanted.bytes, wanted.len) == DMA330_OK && has(&m, &wanted), "restored again", 0);
+    check(has(&m, &wanted), "its save is the same", 0);
+    check(dma330_device_restore(&m.device, kept, sizeof kept - 4) == DMA330_BAD_SAVE, "without its checksum", 0);
     dma330_device_reset(&m.device);
     set(&m, INTEN, 1);
     set(&m, DBGINST0, 0x00340000);
@@ -423,7 +419,7 @@ static void restores_this_layout(void)
 static void ends_after_the_last_instruction(void)
 {
     enum { EXECUTED = HEAD + 20 + 26, LEN = HEAD + 16 };
-    dma330_device_rows r = {{1, 1}, 2, 3, 4, 5, 6, 7};
+    dma330_device_turn t = {{1, 1}, 2, 3, 4};
     uint32_t len = 0;
 
     set_up(&m, plain(1, 1, false));
@@ -439,10 +435,10 @@ static void ends_after_the_last_instruction(void)
     seal_bytes(bad.bytes + HEAD + 20, len);
     seal(&bad);
     check(dma330_device_restore(&m.device, bad.bytes, bad.len) == DMA330_OK, "one instruction before the last", 0);
-    dma330_device_step_rows(&m.device, 0, 1000, m.regions, REGIONS, &r);
-    check(r.taken == 1 && r.lines_changed == 0 && r.can_step == 1 && get(&m, CSR) % 16 == 1, "the last one", 0);
-    dma330_device_step_rows(&m.device, 0, 1000, m.regions, REGIONS, &r);
-    check(r.taken == 0 && r.lines_changed == 1 && r.can_step == 0 && get(&m, CSR) % 16 == 15, "no step after it", 0);
+    dma330_device_step(&m.device, 0, 1000, m.regions, REGIONS, &t);
+    check(t.taken == 1 && t.lines_changed == 0 && t.can_step == 1 && get(&m, CSR) % 16 == 1, "the last one", 0);
+    dma330_device_step(&m.device, 0, 1000, m.regions, REGIONS, &t);
+    check(t.taken == 0 && t.lines_changed == 1 && t.can_step == 0 && get(&m, CSR) % 16 == 15, "no step after it", 0);
     check(get(&m, FTR) == 1u << DMA330_FTR_LOCKUP_ERR, "lockup_err", get(&m, FTR));
     tear_down(&m);
 }

@@ -113,10 +113,10 @@ static void leaves_a_store(const char *what, uint32_t first, uint32_t second)
 static void copies_no_more(uint32_t most)
 {
     static const uint8_t body[] = {DMALD, DMALD, DMAST, DMASEV, 2 << 3, DMAST, DMAEND};
-    dma330_happening events[4] = {{0, 0, 0}};
+    dma330_event events[4] = {{0, 0, 0, 0}};
     dma330_explanation found;
     dma330_repeated src[4];
-    dma330_segment dst[4];
+    dma330_segment dst[4], zeros[4];
     uint32_t at;
 
     set_up(&m, plain(1, 4, false));
@@ -126,9 +126,10 @@ static void copies_no_more(uint32_t most)
     set(&m, INTEN, 1 << 2);
     start(&m, 0, LOW);
     allocations_left = 1000;
-    check(dma330_device_explain(&m.device, 0, 100, src, 4, dst, 4, events, 4, &found) == DMA330_OK, "it copies", most);
+    check(dma330_device_explain(&m.device, 0, 100, src, 4, dst, 4, zeros, 4, events, 4, &found) == DMA330_OK, "it copies",
+          most);
     allocations_left = 0;
-    check(events[0].event == 2 && events[0].stored == 16 && found.size == 32, "16 bytes before its DMASEV", most);
+    check(events[0].event == 2 && events[0].copied == 16 && found.copied == 32, "16 bytes before its DMASEV", most);
     want_ram(&m);
     memcpy(byte_at(m.wanted, LOW + 0x1000), byte_at(m.wanted, LOW + 0x800), 16);
     for (int n = 0; n < 100 && irqs(&m) == 0; n++)
@@ -260,13 +261,14 @@ static void put_burst(uint32_t at, uint32_t src, uint32_t dst)
 /* Moves a burst, and checks SAR, DAR, and FTR, 0 if it doesn't fail. */
 static void moves_at_the_top(uint32_t src, uint32_t dst, uint32_t sar, uint32_t dar, uint32_t fault)
 {
-    dma330_device_turn t = {{1, 1}, 2, 2};
+    dma330_device_turn t = {{1, 1}, 2, 2, 2};
 
     put_burst(LOW, src, dst);
     start(&m, 0, LOW);
     check(dma330_device_step(&m.device, 0, 9, m.regions, REGIONS, &t) == DMA330_OK, "a turn at the top", src);
     check(get(&m, SAR) == sar && get(&m, DAR) == dar && get(&m, FTR) == fault, "registers at the top", src);
     check(fault ? t.written.len == 0 : t.written.addr == dst && t.written.len == 64, "what it wrote at the top", src);
+    check(t.taken == (fault ? 4 + (get(&m, CPC) != LOW + 18) : 6), "its steps at the top", src);
     stop(&m, 0);
 }
 
@@ -287,8 +289,8 @@ static void reaches_the_last_address(void)
     moves_at_the_top(LOW + 0x800, 0xFFFFFFC4, LOW + 0x840, 0xFFFFFFC4, 1 << 17);
     check(memcmp(last, m.wanted + (last - m.bytes), 64) == 0, "bytes before the end", 0);
     m.regions[2].addr++;
-    check(dma330_device_write(&m.device, INTEN, 1, m.regions, REGIONS) == DMA330_BAD_REGIONS, "beyond 2^32", 0);
-    check(dma330_device_read(&m.device, INTEN, &value) == DMA330_OK && value == 0, "it changes nothing", 0);
+    check(dma330_device_write(&m.device, DBGCMD, 0, m.regions, REGIONS) == DMA330_BAD_REGIONS, "beyond 2^32", 0);
+    check(dma330_device_read(&m.device, FSRD, &value) == DMA330_OK && value == 0, "it changes nothing", 0);
     lend(&m);
     tear_down(&m);
 }

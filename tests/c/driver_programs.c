@@ -130,7 +130,7 @@ static void means_copy(meaning *m, const uint32_t copy[3])
 
 static void means_moment(meaning *m, uint32_t kind, uint32_t event)
 {
-    m->moments[m->moments_len++] = (dma330_moment){kind, event, m->copied, m->cleared};
+    m->events[m->events_len++] = (dma330_event){kind, event, m->copied, m->cleared};
 }
 
 void begin_program(program *p)

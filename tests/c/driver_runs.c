@@ -23,16 +23,16 @@ static bool has_same_lists(const meaning *a, const meaning *b)
 
     for (size_t n = 0; is_same && n < a->src_len; n++)
         is_same = a->src[n].addr == b->src[n].addr && a->src[n].len == b->src[n].len && a->src[n].times == b->src[n].times;
-    for (size_t n = 0; is_same && n < a->moments_len; n++)
-        is_same = a->moments[n].kind == b->moments[n].kind && a->moments[n].event == b->moments[n].event &&
-                  a->moments[n].copied == b->moments[n].copied && a->moments[n].cleared == b->moments[n].cleared;
+    for (size_t n = 0; is_same && n < a->events_len; n++)
+        is_same = a->events[n].kind == b->events[n].kind && a->events[n].event == b->events[n].event &&
+                  a->events[n].copied == b->events[n].copied && a->events[n].cleared == b->events[n].cleared;
     return is_same;
 }
 
 static bool has_same_numbers(const meaning *a, const meaning *b)
 {
     return a->src_len == b->src_len && a->dst_len == b->dst_len && a->zeros_len == b->zeros_len &&
-           a->moments_len == b->moments_len && a->copied == b->copied && a->cleared == b->cleared && a->steps == b->steps;
+           a->events_len == b->events_len && a->copied == b->copied && a->cleared == b->cleared && a->steps == b->steps;
 }
 
 /* Whether both calls say the same. Lists that had no room aren't written. */
@@ -43,7 +43,7 @@ static bool is_same(const explained *e, const explained *f)
 }
 
 /* Keeps what a call wrote besides the lists. */
-static void keep(explained *e, int32_t code, const dma330_work *x)
+static void keep(explained *e, int32_t code, const dma330_explanation *x)
 {
     allocations_left = 0;
     e->code = code;
@@ -52,38 +52,38 @@ static void keep(explained *e, int32_t code, const dma330_work *x)
     e->is.src_len = x->src_len;
     e->is.dst_len = x->dst_len;
     e->is.zeros_len = x->zeros_len;
-    e->is.moments_len = x->moments_len;
+    e->is.events_len = x->events_len;
     e->is.copied = x->copied;
     e->is.cleared = x->cleared;
     e->is.steps = x->steps;
 }
 
-static const dma330_work no_work = {0, 0, 0, 0, 0, 0, 0, 0, 0, 0};
+static const dma330_explanation nothing = {0, 0, 0, 0, 0, 0, 0, 0, 0, 0};
 
-static void explain_from(explained *e, const dma330_registers *start, const uint8_t *bytes, size_t len, uint32_t bus,
+static void explain_from(explained *e, const dma330_start *start, const uint8_t *bytes, size_t len, uint32_t bus,
                          uint32_t most)
 {
-    dma330_work x = no_work;
+    dma330_explanation x = nothing;
     int32_t code;
 
     allocations_left = ALLOCATIONS;
-    code = dma330_explain_work(bytes, len, bus, start, most, e->is.src, MOST_ITEMS, e->is.dst, MOST_ITEMS, e->is.zeros,
-                               MOST_ITEMS, e->is.moments, MOST_ITEMS, &x);
+    code = dma330_explain(bytes, len, bus, start, most, e->is.src, MOST_ITEMS, e->is.dst, MOST_ITEMS, e->is.zeros,
+                          MOST_ITEMS, e->is.events, MOST_ITEMS, &x);
     keep(e, code, &x);
 }
 
 void explain(explained *e, const uint8_t *bytes, size_t len, uint32_t bus, uint32_t most)
 {
-    static const dma330_registers zeros = {0, 0, 0, 0, 0, 0, 0, 0, 0};
+    static const dma330_start zeros = {DMA330_KNOWN_ALL, 0, 0, 0, 0, 0};
 
     explain_from(e, &zeros, bytes, len, bus, most);
 }
 
-/* Returns whether dma330_explain_work says the same from other registers, which differ from 0 in each byte lane. */
+/* Returns whether dma330_explain says the same from other registers, which differ from 0 in each byte lane. */
 static bool is_same_from_others(const explained *e, const uint8_t *bytes, size_t len, uint32_t bus, uint32_t most)
 {
-    static const dma330_registers starts[] = {{9, 0x8000100F, 0x80003001, 0x00014004, 255, 1, 0, 9, 9},
-                                              {0, 0xFFFFFFFF, 0xFFFFFFFE, 0x00814232, 3, 200, 1, 0, 0}};
+    static const dma330_start starts[] = {{DMA330_KNOWN_ALL, 0x8000100F, 0x80003001, 0x00014004, 255, 1},
+                                          {DMA330_KNOWN_ALL, 0xFFFFFFFF, 0xFFFFFFFE, 0x00814232, 3, 200}};
     static explained other;
 
     for (size_t n = 0; n < sizeof starts / sizeof starts[0]; n++) {
@@ -96,34 +96,18 @@ static bool is_same_from_others(const explained *e, const uint8_t *bytes, size_t
 
 const char *explain_for_any(const explained *e, const uint8_t *bytes, size_t len, uint32_t bus, uint32_t most, bool *is_unset)
 {
+    /* (a member that isn't known isn't read, not even a CCR that no channel has) */
+    static const dma330_start any = {DMA330_KNOWN_NONE, 0xDEADBEEF, 0xDEADBEEF, 0xFFFFFFFF, 99, 99};
     static explained other;
-    static dma330_happening happenings[MOST_ITEMS];
-    dma330_explanation x = {0, 0, 0, 0, 0, 0, 0};
-    dma330_work as_work = no_work;
-    int32_t code;
 
-    allocations_left = ALLOCATIONS;
-    code = dma330_explain(bytes, len, bus, most, other.is.src, MOST_ITEMS, other.is.dst, MOST_ITEMS, happenings, MOST_ITEMS,
-                          &x);
-    *is_unset = x.cause >= DMA330_CAUSE_UNSET_SAR;
+    explain_from(&other, &any, bytes, len, bus, most);
+    *is_unset = other.cause >= DMA330_CAUSE_UNSET_SAR;
     if (*is_unset)
-        return code == DMA330_UNEXPLAINED && x.steps <= e->is.steps && x.size == 0 ? NULL : "an unset register has a copy";
+        return other.code == DMA330_UNEXPLAINED && other.is.steps <= e->is.steps && other.is.copied == 0 &&
+               other.is.cleared == 0 ? NULL : "an unset register has a copy";
     if (!is_same_from_others(e, bytes, len, bus, most))
         return "the program isn't the same from all registers";
-    if (e->is.zeros_len > 0)
-        return code == DMA330_UNEXPLAINED && x.cause == DMA330_CAUSE_STORES_ZEROS && x.pc == 0 && x.steps == 0 &&
-               x.size == 0 ? NULL : "zeros aren't refused";
-    as_work.src_len = x.src_len;
-    as_work.dst_len = x.dst_len;
-    as_work.moments_len = x.happenings_len;
-    as_work.copied = x.size;
-    as_work.steps = x.steps;
-    as_work.pc = x.pc;
-    as_work.cause = x.cause;
-    for (size_t n = 0; code == DMA330_OK && n < x.happenings_len; n++)
-        other.is.moments[n] = (dma330_moment){happenings[n].kind, happenings[n].event, happenings[n].stored, 0};
-    keep(&other, code, &as_work);
-    return is_same(&other, e) ? NULL : "the call without zeros says something else";
+    return is_same(&other, e) ? NULL : "the program isn't the same from any registers";
 }
 
 bool is_meant(const explained *e, const meaning *means)
@@ -160,53 +144,53 @@ static bool load(const uint8_t *bytes, size_t len)
 /* Returns whether a wait or a signal is explained, and as many bytes are stored as is explained. */
 static bool is_explained(const explained *e, size_t n, uint32_t kind, uint32_t event, uint64_t stored)
 {
-    const dma330_moment *is = &e->is.moments[n];
+    const dma330_event *is = &e->is.events[n];
 
-    return n < e->is.moments_len && is->kind == kind && is->event == event && is->copied == stored && is->cleared == 0 &&
+    return n < e->is.events_len && is->kind == kind && is->event == event && is->copied == stored && is->cleared == 0 &&
            has_done(&e->is, stored, 0);
 }
 
 const char *run_on_channel(const explained *e, const uint8_t *bytes, size_t len, uint32_t most)
 {
-    dma330_channel_report r = {0, DMA330_CHANNEL_MOVED, 0, 0, 0, {0, 0}};
+    dma330_channel_report r = {0, DMA330_MOVED, 0, 0, 0, {0, 0}};
     dma330_registers now;
     uint32_t flags = 0;
     size_t happened = 0;
 
     if (!begin_run(&e->is) || !load(bytes, len))
         return "it isn't loaded";
-    while (r.turn != DMA330_CHANNEL_ENDED) {
+    while (r.last != DMA330_ENDED) {
         bool waits, signals;
         uint32_t kind;
 
         if (dma330_channel_step(&channel, lent, lent_count, &flags, most, &r) != DMA330_OK ||
             dma330_channel_registers(&channel, &now) != DMA330_OK)
             return "a call is refused";
-        waits = r.turn == DMA330_CHANNEL_WAITING;
-        signals = r.turn == DMA330_CHANNEL_SIGNALLED;
-        if (r.turn == DMA330_CHANNEL_FAULT || r.turn == DMA330_CHANNEL_NO_STEP || now.taken > e->is.steps)
+        waits = r.last == DMA330_WAITING;
+        signals = r.last == DMA330_SIGNALLED;
+        if (r.last == DMA330_FAULT || r.last == DMA330_NO_STEP || now.taken > e->is.steps)
             return "an instruction fails, or is one too many";
         kind = signals ? DMA330_SIGNALS : DMA330_WAITS;
         if ((waits || signals) && !is_explained(e, happened++, kind, r.event, now.stored))
             return "another wait or signal";
         flags = waits ? 1u << r.event : 0; /* each wait is seen, since nothing else sets a flag */
     }
-    return happened == e->is.moments_len ? end_run(e, now.taken, now.stored) : "a wait or signal is missing";
+    return happened == e->is.events_len ? end_run(e, now.taken, now.stored) : "a wait or signal is missing";
 }
 
 /* Returns whether a cause is what the next step shows. */
 static bool shows(uint32_t cause, const dma330_channel_report *next)
 {
-    bool fails = next->turn == DMA330_CHANNEL_FAULT;
+    bool fails = next->last == DMA330_FAULT;
 
     switch (cause) {
     case DMA330_CAUSE_LOADS_PAST: return fails && next->fault == DMA330_DATA_READ_ERR;
     case DMA330_CAUSE_STORES_PAST: return fails && next->fault == DMA330_DATA_WRITE_ERR;
     case DMA330_CAUSE_STORES_FIXED:
-        return fails ? next->fault == DMA330_DATA_WRITE_ERR : next->turn == DMA330_CHANNEL_MOVED;
+        return fails ? next->fault == DMA330_DATA_WRITE_ERR : next->last == DMA330_MOVED;
     case DMA330_CAUSE_BYTES_LEFT:
     case DMA330_CAUSE_STORES_TWICE:
-    case DMA330_CAUSE_STORES_SOURCE: return next->turn == DMA330_CHANNEL_ENDED;
+    case DMA330_CAUSE_STORES_SOURCE: return next->last == DMA330_ENDED;
     case DMA330_CAUSE_NO_END: return true;
     default: return fails && next->fault == cause;
     }
@@ -214,7 +198,7 @@ static bool shows(uint32_t cause, const dma330_channel_report *next)
 
 const char *run_to_cause(const explained *e, const uint8_t *bytes, size_t len)
 {
-    dma330_channel_report r = {0, DMA330_CHANNEL_MOVED, 0, 0, 0, {0, 0}};
+    dma330_channel_report r = {0, DMA330_MOVED, 0, 0, 0, {0, 0}};
     dma330_registers now = {0, 0, 0, 0, 0, 0, 0, 0, 0};
     uint32_t left = e->is.steps, flags;
 
@@ -226,9 +210,9 @@ const char *run_to_cause(const explained *e, const uint8_t *bytes, size_t len)
         if (dma330_channel_step(&channel, lent, lent_count, &flags, left, &r) != DMA330_OK ||
             dma330_channel_registers(&channel, &now) != DMA330_OK)
             return "a call is refused";
-        if (r.turn == DMA330_CHANNEL_FAULT && (r.fault == DMA330_DATA_READ_ERR || r.fault == DMA330_DATA_WRITE_ERR))
+        if (r.last == DMA330_FAULT && (r.fault == DMA330_DATA_READ_ERR || r.fault == DMA330_DATA_WRITE_ERR))
             return NULL;
-        if (r.turn == DMA330_CHANNEL_FAULT || r.turn == DMA330_CHANNEL_ENDED)
+        if (r.last == DMA330_FAULT || r.last == DMA330_ENDED)
             return "it doesn't get to the cause";
     }
     if (e->is.steps > 0 && now.pc != e->pc)
@@ -246,11 +230,11 @@ static uint32_t interrupts_of(const meaning *is)
 {
     uint32_t waits = 0, signals = 0;
 
-    for (size_t n = 0; n < is->moments_len; n++)
-        if (is->moments[n].kind == DMA330_WAITS)
-            waits |= 1u << is->moments[n].event;
+    for (size_t n = 0; n < is->events_len; n++)
+        if (is->events[n].kind == DMA330_WAITS)
+            waits |= 1u << is->events[n].event;
         else
-            signals |= 1u << is->moments[n].event;
+            signals |= 1u << is->events[n].event;
     return signals & ~waits;
 }
 
@@ -299,13 +283,13 @@ const char *explain_on_device(const explained *e, uint32_t place, uint32_t bus, 
 {
     static explained same;
     machine *m = machine_of(bus);
-    dma330_work x = no_work;
+    dma330_explanation x = nothing;
     int32_t code;
 
     start(m, 0, place);
     allocations_left = ALLOCATIONS;
-    code = dma330_device_explain_work(&m->device, 0, most, same.is.src, MOST_ITEMS, same.is.dst, MOST_ITEMS, same.is.zeros,
-                                      MOST_ITEMS, same.is.moments, MOST_ITEMS, &x);
+    code = dma330_device_explain(&m->device, 0, most, same.is.src, MOST_ITEMS, same.is.dst, MOST_ITEMS, same.is.zeros,
+                                 MOST_ITEMS, same.is.events, MOST_ITEMS, &x);
     keep(&same, code, &x);
     return is_same(&same, e) ? NULL : "the device's explanation is another one";
 }
@@ -321,8 +305,8 @@ static bool sees(const meaning *is, uint32_t lines, uint64_t count)
     uint32_t left = lines;
     bool has = false;
 
-    for (size_t n = 0; n < is->moments_len; n++) {
-        const dma330_moment *h = &is->moments[n];
+    for (size_t n = 0; n < is->events_len; n++) {
+        const dma330_event *h = &is->events[n];
         uint64_t more = count - h->copied - h->cleared;
 
         if (h->kind == DMA330_SIGNALS && (lines >> h->event & 1) != 0 && h->copied + h->cleared <= count && more <= 256) {
@@ -338,8 +322,8 @@ static bool has_seen_all(const meaning *is, uint32_t interrupts)
 {
     bool has = true;
 
-    for (size_t n = 0; n < is->moments_len; n++)
-        has = has && (was_seen[n] || (interrupts >> is->moments[n].event & 1) == 0);
+    for (size_t n = 0; n < is->events_len; n++)
+        has = has && (was_seen[n] || (interrupts >> is->events[n].event & 1) == 0);
     return has;
 }
 

@@ -20,8 +20,8 @@ static const uint32_t buses[] = {0, 32, 64, 128};
 
 /* ---- programs that are meant ---- */
 
-/* The program is explained on this bus as it is meant, for any registers, and runs so, whatever follows it. Only one whose beats are too
- * wide isn't explained. */
+/* The program is explained on this bus as it is meant, for any registers, and runs so, whatever follows it. Only one whose
+ * beats are too wide isn't explained. */
 static void check_on_bus(uint32_t bus, const char *what, uint32_t n)
 {
     uint32_t place, most = 1 + (n * 7 + bus) % 5000, len = p.len + n % 9;

@@ -13,12 +13,12 @@
 
 enum { MOST_ITEMS = 1024 };
 
-/* What a program reads, stores, sets to 0, waits for and signals, as dma330_explain_work writes it. */
+/* What a program reads, stores, sets to 0, waits for and signals, as dma330_explain writes it. */
 typedef struct meaning {
     dma330_repeated src[MOST_ITEMS];
     dma330_segment dst[MOST_ITEMS], zeros[MOST_ITEMS];
-    dma330_moment moments[MOST_ITEMS];
-    size_t src_len, dst_len, zeros_len, moments_len;
+    dma330_event events[MOST_ITEMS];
+    size_t src_len, dst_len, zeros_len, events_len;
     uint64_t copied, cleared;
     uint32_t steps;
 } meaning;
@@ -120,7 +120,7 @@ bool is_memory_wanted(void);
 /* Explains programs, and compares what they do with what is explained, on a channel and on a device, over the memory
  * above. */
 
-/* What dma330_explain_work returned and wrote. */
+/* What dma330_explain returned and wrote. */
 typedef struct explained {
     int32_t code;
     uint32_t cause, pc;
@@ -130,9 +130,9 @@ typedef struct explained {
 /* Explains a program on a bus of this many bits, 0 for a channel. */
 void explain(explained *e, const uint8_t *bytes, size_t len, uint32_t bus, uint32_t most);
 
-/* Returns NULL if dma330_explain says the same of this program, or refuses it for its zeros, and dma330_explain_work says
- * the same from other registers; or if dma330_explain refuses it since it uses a register before it sets it, as *is_unset
- * then says. Else returns what is otherwise. */
+/* Returns NULL if dma330_explain says the same of this program from any registers, and from others that are known; or if it
+ * refuses it from any since it uses a register before it sets it, as *is_unset then says. Else returns what is
+ * otherwise. */
 const char *explain_for_any(const explained *e, const uint8_t *bytes, size_t len, uint32_t bus, uint32_t most, bool *is_unset);
 
 /* Returns whether a program is explained, as its author means it. */

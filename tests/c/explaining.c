@@ -1,5 +1,5 @@
-/* Tests dma330_explain, dma330_device_explain, dma330_plan and dma330_plan_fill: each cause but one, each code, the events, items
- * that are read several times, and plans for all four buses. What each test expects is worked out by hand from the manual
+/* Tests dma330_explain, dma330_device_explain, dma330_plan and dma330_plan_fill: each cause, each code, the events, items that
+ * are read several times, and plans for all four buses. What each test expects is worked out by hand from the manual
  * of the DMA-330 and docs/PROGRAMS.md. Link it with heap.h's flags. */
 #include "guest.h"
 
@@ -12,7 +12,8 @@ enum { ROOM = 70, UNWRITTEN = 0xA5, MANY = 1000 };
 typedef struct outputs {
     dma330_repeated src[ROOM];
     dma330_segment dst[ROOM];
-    dma330_happening happenings[ROOM];
+    dma330_segment zeros[ROOM];
+    dma330_event events[ROOM];
     dma330_explanation explanation;
 } outputs;
 
@@ -45,12 +46,14 @@ static void assemble(const char *text)
     check(dma330_assemble(text, strlen(text), tested.bytes, sizeof tested.bytes, &tested.len, &place) == DMA330_OK, text, 0);
 }
 
-/* Explains the tested program, with as many allocations as are left and this room for the lists. */
-static int32_t explain_in(uint32_t bus, uint32_t most, size_t src_room, size_t dst_room, size_t happenings_room)
+/* Explains the tested program for any registers, with as many allocations as are left and this room for the lists. */
+static int32_t explain_in(uint32_t bus, uint32_t most, size_t src_room, size_t dst_room, size_t events_room)
 {
+    static const dma330_start any = DMA330_ANY_REGISTERS;
+
     forget();
-    return dma330_explain(tested.bytes, tested.len, bus, most, out.src, src_room, out.dst, dst_room, out.happenings,
-                          happenings_room, &out.explanation);
+    return dma330_explain(tested.bytes, tested.len, bus, &any, most, out.src, src_room, out.dst, dst_room, out.zeros, 0,
+                          out.events, events_room, &out.explanation);
 }
 
 static int32_t explain(uint32_t bus, uint32_t most)
@@ -63,14 +66,16 @@ static int32_t explain_channel(dma330_device *device, uint8_t channel)
 {
     forget();
     allocations_left = MANY;
-    return dma330_device_explain(device, channel, 100, out.src, 1, out.dst, 1, out.happenings, 1, &out.explanation);
+    return dma330_device_explain(device, channel, 100, out.src, 1, out.dst, 1, out.zeros, 1, out.events, 1,
+                                 &out.explanation);
 }
 
-static bool has_counts(size_t src, size_t dst, size_t happenings, uint64_t size, uint32_t steps)
+static bool has_counts(size_t src, size_t dst, size_t events, uint64_t copied, uint32_t steps)
 {
     const dma330_explanation *e = &out.explanation;
 
-    return e->src_len == src && e->dst_len == dst && e->happenings_len == happenings && e->size == size && e->steps == steps;
+    return e->src_len == src && e->dst_len == dst && e->events_len == events && e->copied == copied && e->steps == steps &&
+           e->zeros_len == 0 && e->cleared == 0;
 }
 
 static bool has_cause(uint32_t cause, uint32_t pc, uint32_t steps)
@@ -78,9 +83,9 @@ static bool has_cause(uint32_t cause, uint32_t pc, uint32_t steps)
     return out.explanation.cause == cause && out.explanation.pc == pc && has_counts(0, 0, 0, 0, steps);
 }
 
-static bool is_explained(size_t src, size_t dst, size_t happenings, uint64_t size, uint32_t steps)
+static bool is_explained(size_t src, size_t dst, size_t events, uint64_t copied, uint32_t steps)
 {
-    return out.explanation.cause == 0 && out.explanation.pc == 0 && has_counts(src, dst, happenings, size, steps);
+    return out.explanation.cause == 0 && out.explanation.pc == 0 && has_counts(src, dst, events, copied, steps);
 }
 
 static bool reads(size_t n, uint32_t addr, uint32_t len, uint32_t times)
@@ -93,11 +98,11 @@ static bool writes(size_t n, uint32_t addr, uint32_t len)
     return out.dst[n].addr == addr && out.dst[n].len == len;
 }
 
-static bool happens(size_t n, uint32_t kind, uint32_t event, uint64_t stored)
+static bool happens(size_t n, uint32_t kind, uint32_t event, uint64_t copied)
 {
-    const dma330_happening *h = &out.happenings[n];
+    const dma330_event *h = &out.events[n];
 
-    return h->kind == kind && h->event == event && h->stored == stored;
+    return h->kind == kind && h->event == event && h->copied == copied && h->cleared == 0;
 }
 
 /* ---- causes ---- */
@@ -326,7 +331,7 @@ static void needs_room(void)
     check(reads(0, 0x1000, 4, 1) && reads(1, 0x4000, 4, 1) && writes(0, 0x2000, 4) && writes(1, 0x3000, 4), "the items", 0);
     check(memcmp(out.src + 2, unwritten.src + 2, sizeof out.src - 2 * sizeof out.src[0]) == 0 &&
               memcmp(out.dst + 2, unwritten.dst + 2, sizeof out.dst - 2 * sizeof out.dst[0]) == 0 &&
-              memcmp(out.happenings + 1, unwritten.happenings + 1, sizeof out.happenings - sizeof out.happenings[0]) == 0,
+              memcmp(out.events + 1, unwritten.events + 1, sizeof out.events - sizeof out.events[0]) == 0,
           "nothing behind them", 0);
 }
 
@@ -379,7 +384,7 @@ static uint32_t stored_at(uint64_t byte)
  * which waits for event 2 and signals event 9. */
 static bool is_work(uint32_t size, bool is_fill)
 {
-    bool is_right = out.explanation.size == size && out.explanation.happenings_len == 2 &&
+    bool is_right = out.explanation.copied == size && out.explanation.events_len == 2 &&
                     happens(0, DMA330_WAITS, 2, 0) && happens(1, DMA330_SIGNALS, 9, size);
 
     for (uint32_t k = 0; is_right && k < size; k++)
@@ -402,13 +407,13 @@ static void run_on_device(uint32_t bus, const char *what)
     explained = out;
     forget();
     allocations_left = MANY;
-    check(dma330_device_explain(&m.device, 1, MANY, out.src, ROOM, out.dst, ROOM, out.happenings, ROOM, &out.explanation) ==
-              DMA330_OK && memcmp(&out, &explained, sizeof out) == 0, what, bus);
+    check(dma330_device_explain(&m.device, 1, MANY, out.src, ROOM, out.dst, ROOM, out.zeros, 0, out.events, ROOM,
+                                &out.explanation) == DMA330_OK && memcmp(&out, &explained, sizeof out) == 0, what, bus);
     allocations_left = 0;
     check(run(&m, 1), "it waits", bus);
     put_signal(&m, NEXT, 2);
     want_ram(&m);
-    for (uint64_t k = 0; k < explained.explanation.size; k++)
+    for (uint64_t k = 0; k < explained.explanation.copied; k++)
         *byte_at(m.wanted, stored_at(k)) = *byte_at(m.wanted, read_at(k));
     start(&m, 0, NEXT);
     check(!run(&m, 0) && !run(&m, 1) && is_ram_wanted(&m), what, bus);

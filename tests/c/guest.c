@@ -210,9 +210,9 @@ void set(machine *m, uint32_t offset, uint32_t value)
 
 uint32_t irqs(machine *m)
 {
-    uint32_t lines = 0;
+    uint32_t lines = 0, line;
 
-    must(dma330_device_irqs(&m->device, &lines), "dma330_device_irqs");
+    must(dma330_device_lines(&m->device, &lines, &line), "dma330_device_lines");
     return lines;
 }
 
@@ -226,10 +226,10 @@ static bool truth(int32_t code, uint32_t number, const char *what)
 
 bool irq_abort(machine *m)
 {
-    uint32_t line = 2;
-    int32_t code = dma330_device_irq_abort(&m->device, &line);
+    uint32_t lines, line = 2;
+    int32_t code = dma330_device_lines(&m->device, &lines, &line);
 
-    return truth(code, line, "dma330_device_irq_abort");
+    return truth(code, line, "dma330_device_lines");
 }
 
 bool can_step(machine *m)
@@ -282,13 +282,15 @@ static bool wrote_only(machine *m, dma330_segment range)
  * device with a channel that executes can step, and one whose channels are stopped or faulting can't. */
 bool turn(machine *m, uint32_t channel, uint32_t most)
 {
-    dma330_device_turn t = {{1, 1}, 2, 2};
+    dma330_device_turn t = {{1, 1}, 2, 2, 2};
     uint32_t lines = irqs(m), executing = 0, waiting = 0, status;
     bool line = irq_abort(m);
 
     memcpy(m->former, m->bytes, sizeof m->bytes);
     must(dma330_device_step(&m->device, (uint8_t)channel, most, m->regions, m->region_count, &t), "dma330_device_step");
     m->written = t.written;
+    m->taken = t.taken;
+    always(t.taken <= (uint64_t)most + 1, "a turn takes no more steps than asked for", channel);
     always(t.lines_changed == (lines != irqs(m) || line != irq_abort(m)), "a turn reports a change of the lines", channel);
     always(wrote_only(m, t.written), "a turn reports what it wrote", channel);
     always(t.can_step == can_step(m), "a turn reports whether there is more to do", channel);
@@ -327,22 +329,22 @@ static bool takes_steps(machine *m, uint32_t channel, uint32_t most, uint64_t st
 
 bool take_rows(machine *m, machine *by_one, uint32_t channel, uint32_t most)
 {
-    dma330_device_rows r = {{1, 1}, 2, 3, 4, 5, 6, 7};
+    dma330_device_rows r = {{{1, 1}, 2, 3, 4}, 5, 6, 7};
     uint32_t lines = irqs(m);
     bool line = irq_abort(m), same = true;
 
     must(dma330_device_step_rows(&m->device, (uint8_t)channel, most, m->regions, m->region_count, &r),
          "dma330_device_step_rows");
     for (uint32_t k = 0; k < r.count; k++) {
-        same = takes_steps(by_one, channel, r.steps, r.taken) && same;
-        same = same && by_one->written.addr == r.written.addr + k * r.pitch && by_one->written.len == r.written.len;
-        same = same && (k == 0 || by_one->written.addr > r.written.addr);
+        same = takes_steps(by_one, channel, r.steps, r.turn.taken) && by_one->taken == r.turn.taken && same;
+        same = same && by_one->written.addr == r.turn.written.addr + k * r.pitch;
+        same = same && by_one->written.len == r.turn.written.len && (k == 0 || by_one->written.addr > r.turn.written.addr);
     }
-    m->written = r.written;
-    m->steps += r.count * r.taken;
+    m->written = r.turn.written;
+    m->steps += r.count * r.turn.taken;
     always(r.count > 0 && (uint64_t)r.count * r.steps <= most, "the turns are as few as asked for", r.count);
-    always(r.lines_changed == (lines != irqs(m) || line != irq_abort(m)), "they report a change of the lines", channel);
-    always(r.can_step == can_step(m), "they report whether there is more to do", channel);
+    always(r.turn.lines_changed == (lines != irqs(m) || line != irq_abort(m)), "they report a change of the lines", channel);
+    always(r.turn.can_step == can_step(m), "they report whether there is more to do", channel);
     always(same && are_same(m, by_one), "they do what turns do one by one", channel);
     return r.count > 1;
 }

@@ -42,6 +42,7 @@ typedef struct machine {
     dma330_region regions[DMA330_MAX_REGIONS];
     size_t region_count;
     dma330_segment written;    /* by the last turn */
+    uint64_t taken;            /* the steps of the last turn */
     uint64_t steps;            /* that the turns of take_rows took since set_up */
     uint8_t bytes[ALL_BYTES];
     uint8_t wanted[ALL_BYTES]; /* what a test expects them to become */

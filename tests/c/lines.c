@@ -48,7 +48,7 @@ static void add_earlier(runner *p, same_steps *same, int is_running, uint8_t cha
     dma330_run run;
     char text[64];
     if (earlier > 0 && !is_running) {
-        if (report->turn == DMA330_FINISHED)
+        if (report->last == DMA330_FINISHED)
             run.cookie = report->cookie;
         else if (dma330_running(&p->controller, channel, &run) != DMA330_OK)
             run.cookie = 0;
@@ -81,11 +81,11 @@ static void carry_out_steps(runner *p, answer *to)
         if (code == DMA330_OK) {
             taken = p->outputs.report.taken;
             add_earlier(p, &same, is_running, channel, to);
-            append_turn(&turn, &p->outputs.report);
+            append_last(&turn, &p->outputs.report);
         } else
             append_refusal(p, step, code, &turn);
         left -= taken;
-        is_idle = code != DMA330_OK || (!goes_on(&p->outputs.report) && p->outputs.report.turn != DMA330_FINISHED);
+        is_idle = code != DMA330_OK || (!goes_on(&p->outputs.report) && p->outputs.report.last != DMA330_FINISHED);
         idle = is_idle ? idle + 1 : 0;
         if (idle == (p->way == MANY ? 1 : IDLE_STEPS)) {
             add_steps(&same, text, left, channel, to);
@@ -103,7 +103,7 @@ static int is_in_use(runner *p)
     if (dma330_unfinished(&p->controller, 0, &count) != DMA330_OK || count > 0)
         return 1;
     p->arguments.numbers[0] = 1;
-    return make_call(p, call_of("step")) == DMA330_OK && p->outputs.report.turn != DMA330_NOTHING;
+    return make_call(p, call_of("step")) == DMA330_OK && p->outputs.report.last != DMA330_NOTHING;
 }
 
 /* Copies or fills by channel 0, at once: plans the transfer, which tests its rules, submits it, issues it, and steps. */
@@ -131,7 +131,7 @@ static void carry_out_copy(runner *p, answer *to)
     }
     if (code == DMA330_OK) {
         append(to, is_fill ? "fill " : "copy ");
-        append_turn(to, &p->outputs.report);
+        append_last(to, &p->outputs.report);
     } else
         append_refusal(p, calls[n], code, to);
     append(to, "\n");
@@ -154,6 +154,17 @@ static void carry_out_totals(runner *p, answer *to)
             append_refusal(p, c, code, to);
     }
     append(to, "\n");
+}
+
+/* Returns the call that a statement of a script, or the name of a call, makes. */
+static const call *call_of_line(const char *word)
+{
+    static const char *const names[][2] = {{"steps", "step"}, {"mark", "inject_error"}, {"unmark", "uninject_errors"}};
+    size_t n;
+    for (n = 0; n < sizeof names / sizeof names[0]; n++)
+        if (strcmp(word, names[n][0]) == 0)
+            return call_of(names[n][1]);
+    return call_of(word);
 }
 
 static void carry_out_line(runner *p, const char *line, answer *to)
@@ -183,7 +194,7 @@ static void carry_out_line(runner *p, const char *line, answer *to)
         append_bytes(to, p->ram + p->arguments.numbers[0], p->arguments.numbers[1]);
         append(to, "\n");
     } else {
-        const call *c = call_of(strcmp(word, "steps") == 0 ? "step" : word);
+        const call *c = call_of_line(word);
         read_arguments(c->shape, line, &p->arguments);
         print_call(p, strcmp(word, "submit") == 0 && p->arguments.is_fill ? call_of("submit_fill") : c, to);
     }

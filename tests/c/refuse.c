@@ -61,11 +61,11 @@ static void note_step(dma330_controller *controller, uint8_t channel)
     dma330_running(controller, channel, &run);
     if (!is_right(dma330_step(controller, channel, 1, &report) == DMA330_OK, "a step is refused with enough memory"))
         return;
-    if (report.turn == DMA330_MOVED)
+    if (report.last == DMA330_MOVED)
         refused_steps[run.stored > 0 ? 2 : 1]++;
-    if (report.turn == DMA330_STARTED)
+    if (report.last == DMA330_STARTED)
         refused_steps[0]++;
-    if (report.turn == DMA330_FINISHED)
+    if (report.last == DMA330_FINISHED)
         refused_steps[report.result == DMA330_NO_ERROR ? 3 : 4]++;
 }
 
@@ -158,8 +158,9 @@ static int fail_each(void)
 /* ---- all of them ---- */
 
 /* The calls of dma330.h that name NO_MEMORY. */
-static const char *const growing[] = {"open", "write", "read", "submit", "submit_fill", "issue", "terminate", "step", "mark",
-                                      "unmark", "raise", "checkpoint", "run_program", "assemble", "disassemble"};
+static const char *const growing[] = {"open", "write", "read", "submit", "submit_fill", "issue", "terminate", "step",
+                                      "inject_error", "uninject_errors", "raise", "checkpoint", "run_program", "assemble",
+                                      "disassemble"};
 
 static void count(int holds)
 {

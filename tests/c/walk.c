@@ -77,8 +77,8 @@ static const struct {
     {"history_entries", "OK NOT_OPEN"},
     {"history_bytes", "OK NOT_OPEN"},
     {"running_count", "OK NOT_OPEN"},
-    {"mark", "OK NOT_OPEN BAD_KIND BAD_RANGE"},
-    {"unmark", "OK NOT_OPEN"},
+    {"inject_error", "OK NOT_OPEN BAD_ACCESS BAD_RANGE"},
+    {"uninject_errors", "OK NOT_OPEN"},
     {"raise", "OK NOT_OPEN BAD_EVENT"},
     {"checkpoint", "OK NOT_OPEN RUNNING"},
     {"version", "OK BUFFER_TOO_SMALL"},
@@ -161,7 +161,7 @@ static void run_cut_programs(void)
         if (!is_right(run_cut_program(cut, &end) && end.end == DMA330_END_FAULT && end.fault == DMA330_INSTR_FETCH_ERR &&
                       end.pc == last_offset(cut)))
             printf("WRONG: a program cut at %lu bytes: offset %lu\n", (unsigned long)cut, (unsigned long)end.pc);
-    if (!is_right(run_cut_program(sizeof copy_of_300, &end) && end.end == DMA330_END_ENDED && end.turns == 20))
+    if (!is_right(run_cut_program(sizeof copy_of_300, &end) && end.end == DMA330_END_ENDED && end.steps == 20))
         printf("WRONG: the program of 300 bytes\n");
 }
 
@@ -238,7 +238,7 @@ static int ends_as_wanted(uint32_t first, uint32_t second)
         return 0;
     if (end.end == DMA330_END_FAULT)
         return end.fault == wanted.number && end.pc == wanted.pc;
-    return (end.end == DMA330_END_ENDED ? end.turns : end.event) == wanted.number;
+    return (end.end == DMA330_END_ENDED ? end.steps : end.event) == wanted.number;
 }
 
 /* Returns whether a program ends in its first instruction with this fault. */

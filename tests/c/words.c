@@ -60,7 +60,7 @@ static uint32_t next_kind(const char **at)
     char word[32];
     next_word(at, word, sizeof word);
     if (strcmp(word, "read") == 0 || strcmp(word, "write") == 0)
-        return word[0] == 'r' ? DMA330_MARK_READING : DMA330_MARK_WRITING;
+        return word[0] == 'r' ? DMA330_READS : DMA330_WRITES;
     *at = from;
     return next_number(at);
 }

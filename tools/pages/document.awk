@@ -1,6 +1,6 @@
 # Prints documents of docs/ as a manual page, with a section for each if there are several:
 #
-#     awk -v name=dma330 -v section=1 -v about=.. -v version=1.6.0 -f roff.awk -f document.awk DMA330.md
+#     awk -v name=dma330 -v section=1 -v about=.. -v version=1.0.0 -f roff.awk -f document.awk DMA330.md
 #
 # It reads the parts of Markdown that the documents use: headings, paragraphs, lists, indented code, and within a line
 # `code`, **bold**, *slanted* and [links](..). A paragraph that begins with a command line adds it to the synopsis.

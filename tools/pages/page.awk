@@ -1,6 +1,6 @@
 # Prints dma330.h as the manual page dma330(3), and writes a page of each call into a folder:
 #
-#     awk -v version=1.6.0 -v folder=man3 -f roff.awk -f page.awk dma330.h
+#     awk -v version=1.0.0 -v folder=man3 -f roff.awk -f page.awk dma330.h
 #
 # It has the comment at the head, the codes with the comment above them, and from the first section on each declaration
 # with the comment above it.

@@ -5,8 +5,8 @@
 - `Channel`: one channel that runs programs in memory of yours.
 - `Controller`: a model of a DMA engine with its own memory, to which transfers are submitted, as with Linux's
   dmaengine.
-- `explain`, `explain_work`: what a program copies, or why it is no copy. `plan`, `plan_fill`: the program of a copy.
-  `assemble`, `disassemble`: its text.
+- `explain`: what a program copies and sets to 0, or why it does nothing of this kind. `plan`, `plan_fill`: the
+  program of a copy. `assemble`, `disassemble`: its text.
 
 This copies 4,096 bytes as a driver does:
 
@@ -42,10 +42,10 @@ from .controller import Controller
 from .device import Device
 from .errors import *
 from .memory import Region
-from .programs import assemble, disassemble, explain, explain_work, plan, plan_fill, run_program
+from .programs import assemble, disassemble, explain, plan, plan_fill, run_program
 from .values import *
 
-__all__ = ["Channel", "Controller", "Device", "Region", "assemble", "disassemble", "explain", "explain_work", "plan",
-           "plan_fill", "run_program", "version", "__version__"]
+__all__ = ["Channel", "Controller", "Device", "Region", "assemble", "disassemble", "explain", "plan", "plan_fill",
+           "run_program", "version", "__version__"]
 __all__ += errors.__all__
 __all__ += values.__all__

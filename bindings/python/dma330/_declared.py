@@ -4,7 +4,7 @@ A type is `u8`, `u32`, `u64`, `i32` or `size` for a number, the name of a struct
 after a `*`, for a pointer.
 """
 
-VERSION = "1.6.0"
+VERSION = "1.0.0"
 MAX_VERSION = 32
 
 # Each struct: its name, and its members with their types.
@@ -14,21 +14,20 @@ segment addr:u32 len:u32
 outcome result:u32 residue:u32
 conflict channel:u32 cookie:u32
 run cookie:u32 stored:u32
-report taken:u32 turn:u32 channel:u32 cookie:u32 event:u32 result:u32 residue:u32
+report taken:u32 last:u32 channel:u32 cookie:u32 event:u32 result:u32 residue:u32
 region addr:u32 bytes:*u8 len:size read_only:u32
 channel channel:*void is_open:u8
-channel_report taken:u32 turn:u32 event:u32 fault:u32 pc:u32 written:segment
+channel_report taken:u32 last:u32 event:u32 fault:u32 pc:u32 written:segment
 registers pc:u32 sar:u32 dar:u32 ccr:u32 lc0:u8 lc1:u8 is_loaded:u8 taken:u32 stored:u64
 device device:*void is_open:u8
 device_config channels:u32 events:u32 nonsecure:u32 bus:u32 lines:u32 revision:u32
-device_turn written:segment lines_changed:u32 can_step:u32
-device_rows written:segment pitch:u32 count:u32 steps:u32 lines_changed:u32 can_step:u32 taken:u64
-run_end end:u32 turns:u32 event:u32 fault:u32 pc:u32
+device_turn written:segment taken:u64 lines_changed:u32 can_step:u32
+device_rows turn:device_turn pitch:u32 count:u32 steps:u32
+run_end end:u32 steps:u32 event:u32 fault:u32 pc:u32
 repeated addr:u32 len:u32 times:u32
-happening kind:u32 event:u32 stored:u64
-explanation src_len:size dst_len:size happenings_len:size size:u64 steps:u32 pc:u32 cause:u32
-moment kind:u32 event:u32 copied:u64 cleared:u64
-work src_len:size dst_len:size zeros_len:size moments_len:size copied:u64 cleared:u64 steps:u32 pc:u32 cause:u32 \
+start known:u32 sar:u32 dar:u32 ccr:u32 lc0:u8 lc1:u8
+event kind:u32 event:u32 copied:u64 cleared:u64
+explanation src_len:size dst_len:size zeros_len:size events_len:size copied:u64 cleared:u64 steps:u32 pc:u32 cause:u32 \
 addr:u32
 """
 
@@ -54,8 +53,8 @@ i32 steps *controller *u64
 i32 history_entries *controller *u64
 i32 history_bytes *controller *u64
 i32 running_count *controller *u32
-i32 mark *controller u32 segment
-i32 unmark *controller
+i32 inject_error *controller u32 segment
+i32 uninject_errors *controller
 i32 raise *controller u8
 i32 checkpoint *controller *conflict
 i32 channel_open *channel
@@ -67,8 +66,8 @@ i32 channel_load_from *channel *region size u32
 i32 channel_step *channel *region size *u32 u32 *channel_report
 i32 channel_stop *channel
 i32 channel_registers *channel *registers
-i32 channel_mark *channel u32 segment
-i32 channel_unmark *channel
+i32 channel_inject_error *channel u32 segment
+i32 channel_uninject_errors *channel
 i32 channel_save *channel *u8 size *size
 i32 channel_restore *channel *u8 size
 i32 device_open *device *device_config
@@ -78,18 +77,15 @@ i32 device_read *device u32 *u32
 i32 device_write *device u32 u32 *region size
 i32 device_step *device u8 u32 *region size *device_turn
 i32 device_step_rows *device u8 u32 *region size *device_rows
-i32 device_explain *device u8 u32 *repeated size *segment size *happening size *explanation
-i32 device_explain_work *device u8 u32 *repeated size *segment size *segment size *moment size *work
+i32 device_explain *device u8 u32 *repeated size *segment size *segment size *event size *explanation
 i32 device_registers *device u8 *registers
-i32 device_irqs *device *u32
-i32 device_irq_abort *device *u32
+i32 device_lines *device *u32 *u32
 i32 device_can_step *device *u32
 i32 device_save *device *u8 size *size
 i32 device_restore *device *u8 size
 i32 version *char size *size
 i32 run_program *u8 size *u8 size u32 *run_end
-i32 explain *u8 size u32 u32 *repeated size *segment size *happening size *explanation
-i32 explain_work *u8 size u32 *registers u32 *repeated size *segment size *segment size *moment size *work
+i32 explain *u8 size u32 *start u32 *repeated size *segment size *segment size *event size *explanation
 i32 plan *segment size *segment size i32 i32 u32 *u8 size *size
 i32 plan_fill u32 *segment size i32 i32 u32 *u8 size *size
 i32 assemble *char size *u8 size *size *size
@@ -98,10 +94,10 @@ i32 disassemble *u8 size *char size *size *size
 
 # Each code that a call may return.
 CODES_TABLE = """
-OK=0 NOT_OPEN=-1 ALREADY_OPEN=-2 NO_MEMORY=-3 BAD_EVENT=-4 BAD_KIND=-5 NO_RESULT=-6 NOT_RUNNING=-7 BUFFER_TOO_SMALL=-8
-NO_PROGRAM=-9 OUT_OF_MEMORY_RANGE=-10 BUSY=-11 NO_CHANNEL=-12 COOKIES_SPENT=-13 STEPS_SPENT=-14 BAD_RANGE=-15
-RUNNING=-16 BAD_CHANNELS=-20 SIZE_OUT_OF_RANGE=-21 BAD_REGIONS=-22 BAD_CONFIG=-23 EMPTY_LIST=-30 TOO_MANY_SEGMENTS=-31
-EMPTY_SEGMENT=-32 SEGMENT_WRAPS=-33 TOTALS_DIFFER=-34 TOO_LONG=-35 DESTINATIONS_MEET=-36 SOURCE_MEETS_DESTINATION=-37
-PROGRAM_TOO_LONG=-40 BAD_SAVE=-42 OTHER_DEVICE=-43 BAD_MNEMONIC=-50 BAD_OPERAND=-51 NUMBER_OUT_OF_RANGE=-52
-CUT_INSTRUCTION=-60 UNKNOWN_INSTRUCTION=-61 BAD_FIELD=-62 UNEXPLAINED=-70
+OK=0 NOT_OPEN=-1 ALREADY_OPEN=-2 NO_MEMORY=-3 BUFFER_TOO_SMALL=-4 NO_CHANNEL=-5 NO_PROGRAM=-6 PROGRAM_TOO_LONG=-7
+BAD_CHANNELS=-8 SIZE_OUT_OF_RANGE=-9 BAD_REGIONS=-10 BAD_CONFIG=-11 BAD_EVENT=-12 BAD_ACCESS=-13 BAD_RANGE=-14
+OUT_OF_MEMORY_RANGE=-15 EMPTY_LIST=-16 TOO_MANY_SEGMENTS=-17 EMPTY_SEGMENT=-18 SEGMENT_WRAPS=-19 TOTALS_DIFFER=-20
+TOO_LONG=-21 DESTINATIONS_MEET=-22 SOURCE_MEETS_DESTINATION=-23 BUSY=-24 RUNNING=-25 NOT_RUNNING=-26 NO_RESULT=-27
+COOKIES_SPENT=-28 STEPS_SPENT=-29 BAD_SAVE=-30 OTHER_DEVICE=-31 BAD_MNEMONIC=-32 BAD_OPERAND=-33
+NUMBER_OUT_OF_RANGE=-34 CUT_INSTRUCTION=-35 UNKNOWN_INSTRUCTION=-36 BAD_FIELD=-37 UNEXPLAINED=-38
 """

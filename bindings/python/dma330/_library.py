@@ -68,7 +68,7 @@ def room_for(kind: Any, count: int) -> Tuple[bytearray, Any]:
 
 
 def version() -> str:
-    """Returns the library's name and version, as "dilkwafam 1.6"."""
+    """Returns the library's name and version, as "dilkwafam 1.0"."""
     room, out = room_for(u8, MAX_VERSION)
     size = size_t()
     CALLS["version"](out, MAX_VERSION, byref(size))

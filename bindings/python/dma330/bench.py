@@ -166,7 +166,7 @@ class Bench:
         """Lets a channel take a turn."""
         most = self.random.randint(1, self.most)
         did = self.device.step_rows(self.random.randrange(self.device.channels), most)
-        self.now += max(1, did.count * did.taken)
+        self.now += max(1, did.count * did.turn.taken)
         if did.lines_changed:
             self._set_lines()
 

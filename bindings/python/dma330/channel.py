@@ -6,7 +6,7 @@ from typing import TYPE_CHECKING, Iterable, Optional, SupportsIndex
 from ._library import STRUCTS, byref, u32
 from ._opened import OverRegions
 from .memory import Region, bytes_of, event_of, number, segment, segments
-from .values import MAX_SAVE, ChannelReport, ChannelTurn, MarkKind, Registers, fault_of, registers_of, segment_of
+from .values import MAX_SAVE, Access, ChannelReport, LastStep, Registers, fault_of, registers_of, segment_of
 
 if TYPE_CHECKING:
     from .memory import Buffer, Segments
@@ -18,7 +18,7 @@ class Channel(OverRegions):
         ram = bytearray(0x1000)
         it = Channel([Region(0x80000000, ram)])
         it.load_copy((0x80000000, 16), (0x80000100, 16))
-        assert it.run().turn == ChannelTurn.ENDED
+        assert it.run().last == LastStep.ENDED
 
     Bit n of `flags` is the flag of event n. A call with wrong regions raises BadRegions. Opening raises NoMemory.
     """
@@ -73,7 +73,7 @@ class Channel(OverRegions):
         instruction again. Raises BadRegions, NoProgram."""
         lent = self._lent
         it = self._get("step", STRUCTS["channel_report"], *lent.words, byref(self._flags), number(most, 32, "most"))
-        return ChannelReport(it.taken, ChannelTurn(it.turn), it.event, fault_of(it.fault), it.pc,
+        return ChannelReport(it.taken, LastStep(it.last), it.event, fault_of(it.fault), it.pc,
                              segment_of(it.written))
 
     def run(self, most: SupportsIndex = 4096, limit: int = 100000000) -> ChannelReport:
@@ -83,7 +83,7 @@ class Channel(OverRegions):
         while True:
             report = self.step(most)
             taken += report.taken
-            if report.turn not in (ChannelTurn.MOVED, ChannelTurn.SIGNALLED):
+            if report.last not in (LastStep.MOVED, LastStep.SIGNALLED):
                 return report
             if taken >= limit:
                 raise TimeoutError("the program still runs after %d steps, at offset %d" % (taken, report.pc))
@@ -97,20 +97,20 @@ class Channel(OverRegions):
         """The registers and counts."""
         return registers_of(self._get("registers", STRUCTS["registers"]))
 
-    def mark(self, kind: MarkKind, addr: SupportsIndex, size: SupportsIndex) -> None:
-        """Marks a range, inside the memory or not: loads or stores of this channel there, by `kind`, fail from then on.
-        Raises BadKind, BadRange, NoMemory."""
-        self._call("mark", number(kind, 32, "kind"), segment(addr, size))
+    def inject_error(self, access: Access, addr: SupportsIndex, size: SupportsIndex) -> None:
+        """Injects an error: loads or stores of this channel in a range, by `access`, fail from then on. The range may
+        lie inside the memory or not. Raises BadAccess, BadRange, NoMemory."""
+        self._call("inject_error", number(access, 32, "access"), segment(addr, size))
 
-    def unmark(self) -> None:
-        """Removes the marks of this channel."""
-        self._call("unmark")
+    def uninject_errors(self) -> None:
+        """Removes all injected errors of this channel."""
+        self._call("uninject_errors")
 
     def save(self) -> bytes:
-        """Returns the whole channel, except its marks and flags, as bytes."""
+        """Returns the whole channel, except its injected errors and flags, as bytes."""
         return self._save(MAX_SAVE)
 
     def restore(self, save: Buffer) -> None:
-        """Makes the channel the one that was saved; its marks stay. Raises BadSave."""
+        """Makes the channel the one that was saved; its injected errors stay. Raises BadSave."""
         save = bytes_of(save)
         self._call("restore", save, len(save))

@@ -7,7 +7,7 @@ from ._library import STRUCTS, byref, room_for, u8, u32, u64
 from ._opened import Opened
 from .errors import OutOfMemoryRange, check
 from .memory import bytes_of, event_of, number, segment, segments
-from .values import MarkKind, Outcome, Report, Result, Run, Status, Turn
+from .values import Access, LastStep, Outcome, Report, Result, Run, Status
 
 if TYPE_CHECKING:
     from .memory import Buffer, Segments
@@ -44,14 +44,14 @@ class Controller(Opened):
         return int(self._get(name, kind, *words).value)
 
     def write(self, addr: SupportsIndex, data: Buffer) -> None:
-        """Writes bytes into the memory from an address on, marked or not. Raises OutOfMemoryRange; Busy if a running
-        transfer reads or writes one of the addresses; NoMemory."""
+        """Writes bytes into the memory from an address on, also where an error is injected. Raises OutOfMemoryRange;
+        Busy if a running transfer reads or writes one of the addresses; NoMemory."""
         data = bytes_of(data)
         self._conflicting("write", number(addr, 32, "address"), data, len(data))
 
     def read(self, addr: SupportsIndex, size: SupportsIndex) -> bytes:
-        """Reads bytes of the memory, marked or not; the history keeps a copy of them. Raises OutOfMemoryRange; Busy if
-        a running transfer writes one of the addresses; NoMemory."""
+        """Reads bytes of the memory, also where an error is injected; the history keeps a copy of them. Raises
+        OutOfMemoryRange; Busy if a running transfer writes one of the addresses; NoMemory."""
         first, count = number(addr, 32, "address"), number(size, 32, "size")
         if self.is_open and first + count > self._size:
             raise OutOfMemoryRange
@@ -100,14 +100,14 @@ class Controller(Opened):
         """Steps a channel up to `most` times, or until a step neither starts nor moves. Raises, of the first step,
         NoChannel, StepsSpent, NoMemory; if a later one is refused, the next call tries it again."""
         it = self._get("step", STRUCTS["report"], number(channel, 8, "channel"), number(most, 32, "most"))
-        return Report(it.taken, Turn(it.turn), it.channel, it.cookie, it.event, Result(it.result), it.residue)
+        return Report(it.taken, LastStep(it.last), it.channel, it.cookie, it.event, Result(it.result), it.residue)
 
     def run(self, channel: SupportsIndex) -> Report:
         """Steps a channel until a step neither starts nor moves, and returns the last report: at FINISHED another
         transfer may be next. Raises what `step` raises."""
         while True:
             report = self.step(channel)
-            if report.turn not in (Turn.STARTED, Turn.MOVED):
+            if report.last not in (LastStep.STARTED, LastStep.MOVED):
                 return report
 
     def status(self, channel: SupportsIndex, cookie: SupportsIndex) -> Status:
@@ -152,14 +152,14 @@ class Controller(Opened):
         """The number of running transfers of all channels."""
         return self._count("running_count", u32)
 
-    def mark(self, kind: MarkKind, addr: SupportsIndex, size: SupportsIndex) -> None:
-        """Marks a range, inside the memory or not: bursts that read it or write it, by `kind`, fail from then on.
-        Raises BadKind, BadRange, NoMemory."""
-        self._call("mark", number(kind, 32, "kind"), segment(addr, size))
+    def inject_error(self, access: Access, addr: SupportsIndex, size: SupportsIndex) -> None:
+        """Injects an error: bursts that read a range, or write it, by `access`, fail from then on. The range may lie
+        inside the memory or not. Raises BadAccess, BadRange, NoMemory."""
+        self._call("inject_error", number(access, 32, "access"), segment(addr, size))
 
-    def unmark(self) -> None:
-        """Removes all marks. Raises NoMemory."""
-        self._call("unmark")
+    def uninject_errors(self) -> None:
+        """Removes all injected errors. Raises NoMemory."""
+        self._call("uninject_errors")
 
     def raise_event(self, event: SupportsIndex) -> None:
         """Sets the flag of an event, which stays set until a transfer that waits for it passes. Raises BadEvent,

@@ -1,16 +1,15 @@
 """The registers of a DMA-330 over the caller's memory."""
 from __future__ import annotations
 
-from typing import TYPE_CHECKING, Iterable, SupportsIndex
+from typing import TYPE_CHECKING, Iterable, SupportsIndex, Tuple
 
 from . import registers as reg
 from ._library import STRUCTS, byref, u32
 from ._opened import OverRegions
 from .errors import NoChannel
 from .memory import Region, bytes_of, number
-from .programs import explanation_of, work_of
-from .values import (MAX_DEVICE_SAVE, Csr, DeviceRows, DeviceTurn, Explanation, Registers, Work, registers_of,
-                     segment_of)
+from .programs import explanation_of
+from .values import MAX_DEVICE_SAVE, Csr, DeviceRows, DeviceTurn, Explanation, Registers, registers_of, turn_of
 
 if TYPE_CHECKING:
     from .memory import Buffer
@@ -66,16 +65,21 @@ class Device(OverRegions):
         lent = self._lent
         self._call("write", number(offset, 32, "offset"), number(value, 32, "value"), *lent.words)
 
+    def _lines(self) -> Tuple[int, bool]:
+        irqs, irq_abort = u32(), u32()
+        self._call("lines", byref(irqs), byref(irq_abort))
+        return irqs.value, irq_abort.value == 1
+
     @property
     def irqs(self) -> int:
         """The lines irq[31:0]. A high line stays high until the guest clears its interrupt by INTCLR, a reset, or a
         restore of a device in which it is low."""
-        return int(self._get("irqs", u32).value)
+        return self._lines()[0]
 
     @property
     def irq_abort(self) -> bool:
         """The line irq_abort, which is high until the guest kills each faulting thread."""
-        return bool(self._get("irq_abort", u32).value)
+        return self._lines()[1]
 
     @property
     def can_step(self) -> bool:
@@ -88,9 +92,8 @@ class Device(OverRegions):
         a DMASEV (of an interrupt one step later), and before a store that neither overlaps nor touches the range that
         it has written. It does nothing for a channel that is stopped or faulting, or that the device doesn't have."""
         lent = self._lent
-        it = self._get("step", STRUCTS["device_turn"], number(channel, 8, "channel"), number(most, 32, "most"),
-                       *lent.words)
-        return DeviceTurn(segment_of(it.written), it.lines_changed == 1, it.can_step == 1)
+        return turn_of(self._get("step", STRUCTS["device_turn"], number(channel, 8, "channel"),
+                                 number(most, 32, "most"), *lent.words))
 
     def step_rows(self, channel: SupportsIndex, most: SupportsIndex = 1024) -> DeviceRows:
         """Takes several turns of a channel, one for each row, where a loop copies the rows of a rectangle; else one
@@ -99,8 +102,7 @@ class Device(OverRegions):
         lent = self._lent
         it = self._get("step_rows", STRUCTS["device_rows"], number(channel, 8, "channel"), number(most, 32, "most"),
                        *lent.words)
-        return DeviceRows(segment_of(it.written), it.pitch, it.count, it.steps, it.lines_changed == 1, it.can_step == 1,
-                          it.taken)
+        return DeviceRows(turn_of(it.turn), it.pitch, it.count, it.steps)
 
     def run(self, most: SupportsIndex = 1024, turns: int = 1000000) -> None:
         """Lets all channels take turns until none can step. Raises TimeoutError if one still can after `turns` turns of
@@ -139,22 +141,17 @@ class Device(OverRegions):
 
     def registers(self, channel: SupportsIndex) -> Registers:
         """Returns the registers and counts of a channel. If the channel has failed, they are those from before the
-        instruction that failed. After each turn of a program that a DMAGO started, and that `explain_work` explained
+        instruction that failed. After each turn of a program that a DMAGO started, and that `explain` explained
         before the first turn, the first `stored` bytes of its `dst` and `zeros` are done, if nobody else writes what it
         reads or writes. Raises NoChannel."""
         return registers_of(self._get("registers", STRUCTS["registers"], number(channel, 8, "channel")))
 
     def explain(self, channel: SupportsIndex, most: SupportsIndex = 1000000) -> Explanation:
-        """Returns what the program copies that a DMAGO loaded into a channel, from its first instruction on, but with
+        """Returns what the program does that a DMAGO loaded into a channel, from its first instruction on, but with
         the registers that the channel has now; so ask before the channel's first turn. Raises NoChannel, NoProgram,
         NoMemory, Unexplained."""
         words = number(channel, 8, "channel"), number(most, 32, "most")
         return explanation_of(lambda *lists: self._code("explain", *words, *lists))
-
-    def explain_work(self, channel: SupportsIndex, most: SupportsIndex = 1000000) -> Work:
-        """Returns all that a channel's program does, also what its DMASTZ set to 0. Raises what `explain` raises."""
-        words = number(channel, 8, "channel"), number(most, 32, "most")
-        return work_of(lambda *lists: self._code("explain_work", *words, *lists))
 
     def reset(self) -> None:
         """Puts the device into its state after a reset."""
@@ -165,7 +162,7 @@ class Device(OverRegions):
         return self._save(MAX_DEVICE_SAVE)
 
     def restore(self, save: Buffer) -> None:
-        """Makes the device the one that was saved, by this version or an earlier one. Raises OtherDevice; BadSave,
-        after which the device is in its state after a reset."""
+        """Makes the device the one that was saved. Raises OtherDevice; BadSave, after which the device is in its state
+        after a reset."""
         save = bytes_of(save)
         self._call("restore", save, len(save))

@@ -12,7 +12,7 @@ from typing import Dict, Tuple, Type
 from ._declared import CODES_TABLE
 from .values import Cause
 
-__all__ = ["Error", "NotOpen", "AlreadyOpen", "NoMemory", "BadEvent", "BadKind", "NoResult", "NotRunning",
+__all__ = ["Error", "NotOpen", "AlreadyOpen", "NoMemory", "BadEvent", "BadAccess", "NoResult", "NotRunning",
            "BufferTooSmall", "NoProgram", "OutOfMemoryRange", "Busy", "NoChannel", "CookiesSpent", "StepsSpent",
            "BadRange", "Running", "BadChannels", "SizeOutOfRange", "BadRegions", "BadConfig", "EmptyList",
            "TooManySegments", "EmptySegment", "SegmentWraps", "TotalsDiffer", "TooLong", "DestinationsMeet",
@@ -59,8 +59,8 @@ class BadEvent(Error, ValueError):
     """An event is above 31."""
 
 
-class BadKind(Error, ValueError):
-    """A kind of mark is neither 0 nor 1."""
+class BadAccess(Error, ValueError):
+    """Neither READS nor WRITES."""
 
 
 class NoResult(Error, LookupError):
@@ -103,7 +103,7 @@ class StepsSpent(Error, RuntimeError):
 
 
 class BadRange(Error, ValueError):
-    """A range to be marked is empty, or ends above 2^32."""
+    """A range in which accesses are to fail is empty, or ends above 2^32."""
 
 
 class Running(Error, RuntimeError):
@@ -168,7 +168,7 @@ class ProgramTooLong(Error, ValueError):
 
 
 class BadSave(Error, ValueError):
-    """The bytes are no save of a channel in this version, or of any device."""
+    """The bytes are no save of a channel, or of any device."""
 
 
 class OtherDevice(Error, ValueError):
@@ -212,9 +212,9 @@ class BadField(Error, ValueError):
 
 
 class Unexplained(Error, ValueError):
-    """A program isn't explained, for `cause`, a `Cause`. `pc` is the offset of the instruction that has it (0 for
-    STORES_ZEROS), `steps` how many are executed before it. `addr` is the lowest address that is stored twice, for
-    STORES_TWICE, or read and stored, for STORES_SOURCE, if `explain_work` was called; else it is 0."""
+    """A program isn't explained, for `cause`, a `Cause`. `pc` is the offset of the instruction that has it, `steps` how
+    many are executed before it. `addr` is the lowest address that is stored twice, for STORES_TWICE, or read and
+    stored, for STORES_SOURCE; else it is 0."""
     about = ("cause", "pc", "steps", "addr")
     cause: Cause
     pc: int

@@ -2,13 +2,13 @@
 from __future__ import annotations
 
 import struct
-from typing import TYPE_CHECKING, Any, Callable, List, Optional, SupportsIndex, Tuple
+from typing import TYPE_CHECKING, Any, Callable, List, Optional, SupportsIndex, Tuple, Union
 
 from ._library import CALLS, STRUCTS, byref, room_for, size_t, u8, u32, u64
 from .errors import BufferTooSmall, check
 from .memory import Region, bytes_of, event_of, number, segments
-from .values import (MAX_PROGRAM, Cause, End, Explanation, Happening, HappeningKind, Moment, Registers, Repeated,
-                     RunEnd, Segment, Work, fault_of)
+from .values import (MAX_PROGRAM, Cause, End, Event, EventKind, Explanation, Known, Registers, Repeated, RunEnd,
+                     Segment, Start, fault_of)
 
 if TYPE_CHECKING:
     from .memory import Buffer, Segments
@@ -17,8 +17,7 @@ if TYPE_CHECKING:
 
 _FORMATS = {u32: "I", u64: "Q"}
 _FIRST_ROOM = 64
-_COPY = ("src repeated", "dst segment", "happenings happening")
-_WORK = ("src repeated", "dst segment", "zeros segment", "moments moment")
+_LISTS = {"src": "repeated", "dst": "segment", "zeros": "segment", "events": "event"}
 
 
 def _rows(room: bytearray, kind: Any, count: int) -> List[Tuple[int, ...]]:
@@ -26,61 +25,52 @@ def _rows(room: bytearray, kind: Any, count: int) -> List[Tuple[int, ...]]:
     return list(struct.iter_unpack(form, bytes(room[:count * struct.calcsize(form)])))
 
 
-def _explained(call: Call, struct_name: str, lists: Tuple[str, ...]) -> Tuple[Any, List[List[Tuple[int, ...]]]]:
-    """Makes a call that explains, with more room if the lists need it. Returns its struct and its lists."""
-    names, kinds = zip(*(it.split() for it in lists))
-    counts = [_FIRST_ROOM] * len(lists)
+def explanation_of(call: Call) -> Explanation:
+    """Makes a call that explains, with more room if the lists need it."""
+    kinds = [STRUCTS[it] for it in _LISTS.values()]
+    counts = [_FIRST_ROOM] * len(kinds)
     while True:
-        found = STRUCTS[struct_name]()
-        rooms = [room_for(STRUCTS[kind], count) for kind, count in zip(kinds, counts)]
+        found = STRUCTS["explanation"]()
+        rooms = [room_for(kind, count) for kind, count in zip(kinds, counts)]
         words = [word for (_, pointer), count in zip(rooms, counts) for word in (pointer, count)]
         code = call(*words, byref(found))
-        counts = [getattr(found, name + "_len") for name in names]
+        counts = [getattr(found, name + "_len") for name in _LISTS]
         if code != BufferTooSmall.code:
             break
-    check(code, Cause(found.cause), found.pc, found.steps, getattr(found, "addr", 0))
-    return found, [_rows(room, STRUCTS[kind], count) for (room, _), kind, count in zip(rooms, kinds, counts)]
+    check(code, Cause(found.cause), found.pc, found.steps, found.addr)
+    src, dst, zeros, events = (_rows(room, kind, count) for (room, _), kind, count in zip(rooms, kinds, counts))
+    return Explanation([Repeated(*it) for it in src], [Segment(*it) for it in dst], [Segment(*it) for it in zeros],
+                       [Event(EventKind(kind), *rest) for kind, *rest in events], found.copied, found.cleared,
+                       found.steps)
 
 
-def explanation_of(call: Call) -> Explanation:
-    found, (src, dst, happenings) = _explained(call, "explanation", _COPY)
-    return Explanation([Repeated(*it) for it in src], [Segment(*it) for it in dst],
-                       [Happening(HappeningKind(kind), *rest) for kind, *rest in happenings], found.size, found.steps)
+def _start_of(start: Union[Start, Registers]) -> Any:
+    """Returns the struct of dma330.h."""
+    raw = STRUCTS["start"]()
+    for name, bits in (("sar", 32), ("dar", 32), ("ccr", 32), ("lc0", 8), ("lc1", 8)):
+        value = getattr(start, name)
+        if value is not None:
+            setattr(raw, name, number(value, bits, name))
+            raw.known += Known[name.upper()]
+    return raw
 
 
-def work_of(call: Call) -> Work:
-    found, (src, dst, zeros, moments) = _explained(call, "work", _WORK)
-    return Work([Repeated(*it) for it in src], [Segment(*it) for it in dst], [Segment(*it) for it in zeros],
-                [Moment(HappeningKind(kind), *rest) for kind, *rest in moments], found.copied, found.cleared,
-                found.steps)
-
-
-def explain(program: Buffer, bus: SupportsIndex = 0, most: SupportsIndex = 1000000) -> Explanation:
-    """Returns what a program copies: which bytes it reads, where it stores them, and its events.
+def explain(program: Buffer, bus: SupportsIndex = 0, start: Union[Start, Registers] = Start(),
+            most: SupportsIndex = 1000000) -> Explanation:
+    """Returns what a program does: which bytes it reads, where it stores them, what its DMASTZ set to 0, and its
+    events.
 
         found = explain(plan((0x1000, 300), (0x2000, 300), signal=3))
         assert found.src == [(0x1000, 300, 1)] and found.dst == [(0x2000, 300)]
-        assert found.happenings == [(HappeningKind.SIGNALS, 3, 300)]
+        assert found.events == [(EventKind.SIGNALS, 3, 300, 0)]
 
     `bus` is 0 for a `Channel`, or the width of a device's bus, 32, 64 or 128. The program runs without a memory for at
-    most `most` instructions, whatever the registers are with which it begins: a register isn't known until the program
-    sets it. Raises BadConfig for another bus, ProgramTooLong, NoMemory, Unexplained."""
+    most `most` instructions. It begins with the registers of `start`, as far as they are known, and what is found holds
+    whatever the others are; `Registers` are all known. Raises BadConfig for another bus, and for a CCR that no channel
+    on the bus has; ProgramTooLong, NoMemory, Unexplained."""
     program = bytes_of(program)
-    words = (program, len(program), number(bus, 32, "bus"), number(most, 32, "most"))
+    words = (program, len(program), number(bus, 32, "bus"), byref(_start_of(start)), number(most, 32, "most"))
     return explanation_of(lambda *lists: CALLS["explain"](*words, *lists))
-
-
-def explain_work(program: Buffer, bus: SupportsIndex = 0, start: Registers = Registers(),
-                 most: SupportsIndex = 1000000) -> Work:
-    """Returns all that a program does: what it copies, as `explain`, and what its DMASTZ set to 0. It begins with the
-    SAR, DAR, CCR, LC0 and LC1 of `start`, as a device's channel, which keeps its registers over a DMAGO. Raises what
-    `explain` raises, and BadConfig for a CCR that no channel on the bus has."""
-    program = bytes_of(program)
-    begin = STRUCTS["registers"](sar=number(start.sar, 32, "sar"), dar=number(start.dar, 32, "dar"),
-                                 ccr=number(start.ccr, 32, "ccr"), lc0=number(start.lc0, 8, "lc0"),
-                                 lc1=number(start.lc1, 8, "lc1"))
-    words = (program, len(program), number(bus, 32, "bus"), byref(begin), number(most, 32, "most"))
-    return work_of(lambda *lists: CALLS["explain_work"](*words, *lists))
 
 
 def _written(name: str, *words: Any) -> bytes:
@@ -136,12 +126,12 @@ def disassemble(program: Buffer) -> str:
 
 
 def run_program(program: Buffer, memory: Buffer, limit: SupportsIndex = 1000000) -> RunEnd:
-    """Runs a program alone over a memory that begins at address 0, in place, without marks and with all flags clear,
-    for at most `limit` instructions. Raises SizeOutOfRange, ProgramTooLong, NoMemory; TypeError for memory that can't
+    """Runs a program alone over a memory that begins at address 0, in place, with all flags clear, for at most `limit`
+    instructions. Raises SizeOutOfRange, ProgramTooLong, NoMemory; TypeError for memory that can't
     be written."""
     lent, program = Region(0, memory), bytes_of(program)
     if lent.read_only:
         raise TypeError("the program's memory must be one that can be written")
     it = STRUCTS["run_end"]()
     check(CALLS["run_program"](program, len(program), lent.place, len(lent), number(limit, 32, "limit"), byref(it)))
-    return RunEnd(End(it.end), it.turns, it.event, fault_of(it.fault), it.pc)
+    return RunEnd(End(it.end), it.steps, it.event, fault_of(it.fault), it.pc)

@@ -1,6 +1,6 @@
 """What calls take and return: the enums of dma330.h, by its names, and its structs as named tuples.
 
-A member of a report is 0 unless its comment names the turn.
+A member of a report is 0 unless its comment names what the last step did.
 """
 from __future__ import annotations
 
@@ -9,9 +9,9 @@ from enum import IntEnum
 from typing import Any, Iterator, List, NamedTuple, Optional
 
 __all__ = ["MAX_SEGMENTS", "MAX_BYTES", "MAX_PROGRAM", "MAX_CHANNELS", "MAX_REGIONS", "MAX_SAVE", "MAX_DEVICE_SAVE",
-           "Turn", "ChannelTurn", "Result", "Status", "MarkKind", "End", "Fault", "HappeningKind", "Cause", "Csr",
-           "Ftr", "Ftrd", "Segment", "Outcome", "Run", "Report", "ChannelReport", "Registers", "DeviceTurn",
-           "DeviceRows", "RunEnd", "Repeated", "Happening", "Moment", "Explanation", "Work"]
+           "LastStep", "Result", "Status", "Access", "End", "Fault", "Known", "EventKind", "Cause", "Csr", "Ftr",
+           "Ftrd", "Segment", "Outcome", "Run", "Report", "ChannelReport", "Registers", "DeviceTurn", "DeviceRows",
+           "RunEnd", "Repeated", "Start", "Event", "Explanation"]
 
 MAX_SEGMENTS, MAX_BYTES, MAX_PROGRAM, MAX_CHANNELS, MAX_REGIONS = 64, 1048576, 8192, 8, 64
 MAX_SAVE, MAX_DEVICE_SAVE = 8500, 68204
@@ -19,34 +19,28 @@ MAX_SAVE, MAX_DEVICE_SAVE = 8500, 68204
 # ---- enums ----
 
 
-class Turn(IntEnum):
-    """What the last of some steps of a controller's channel did."""
-    NO_STEP = 0  # no step was requested
-    STARTED = 1  # the channel's next transfer began to run
-    MOVED = 2  # one instruction was executed
-    NOTHING = 3  # no transfer is issued and unfinished
-    HELD = 4  # the next transfer conflicts with a running one
-    WAITING = 5  # for an event whose flag is clear
-    PAUSED = 6  # until resume or terminate
-    HALTED = 7  # by a transfer that failed, until terminate
-    FINISHED = 8
-
-
-class ChannelTurn(IntEnum):
-    """What the last of some steps of a `Channel` did."""
-    NO_STEP = 0  # `most` was 0, or 4294967295 instructions were executed since the load
-    MOVED = 1  # an instruction was executed
-    WAITING = 2  # for an event whose flag is clear; it has changed nothing
+class LastStep(IntEnum):
+    """What the last of some steps did: of a `Channel` up to SIGNALLED, of a controller's channel the others, NO_STEP,
+    MOVED and WAITING."""
+    NO_STEP = 0  # none was taken: `most` was 0, or a `Channel` had executed 4294967295 instructions
+    MOVED = 1  # one instruction was executed
+    WAITING = 2  # for an event whose flag is clear; nothing has changed
     ENDED = 3  # it was DMAEND: the program is gone
     FAULT = 4  # the instruction failed; it has changed nothing
     SIGNALLED = 5  # it was DMASEV: the flag of `event` is set
+    STARTED = 6  # the channel's next transfer began to run
+    FINISHED = 7  # the transfer has finished
+    NOTHING = 8  # no transfer is issued and unfinished
+    HELD = 9  # the next transfer conflicts with a running one
+    PAUSED = 10  # until resume or terminate
+    HALTED = 11  # by a transfer that failed, until terminate
 
 
 class Result(IntEnum):
     """How a transfer finished."""
     NO_ERROR = 0
-    READ_FAILED = 1  # a burst met a mark of reading
-    WRITE_FAILED = 2  # a burst met a mark of writing
+    READ_FAILED = 1  # a load met an injected error
+    WRITE_FAILED = 2  # a store did
     ABORTED = 3  # by terminate
 
 
@@ -57,18 +51,18 @@ class Status(IntEnum):
     COMPLETE = 2
 
 
-class MarkKind(IntEnum):
-    """Which bursts fail in a marked range."""
-    READING = 0
-    WRITING = 1
+class Access(IntEnum):
+    """The accesses to a range that fail."""
+    READS = 0
+    WRITES = 1
 
 
 class End(IntEnum):
-    """How a program that ran alone ended."""
+    """How a program that ran alone ended. OUT_OF_STEPS: it hasn't, after as many instructions as were allowed."""
+    OUT_OF_STEPS = 0
     ENDED = 1
-    OUT_OF_TURNS = 2
-    WAITING = 3
-    FAULT = 4
+    WAITING = 2
+    FAULT = 3
 
 
 class Fault(IntEnum):
@@ -82,7 +76,18 @@ class Fault(IntEnum):
     DATA_READ_ERR = 7
 
 
-class HappeningKind(IntEnum):
+class Known(IntEnum):
+    """The registers of a `Start` that are known, as bits."""
+    NONE = 0
+    SAR = 1
+    DAR = 2
+    CCR = 4
+    LC0 = 8
+    LC1 = 16
+    ALL = 31
+
+
+class EventKind(IntEnum):
     """A DMAWFE or a DMASEV."""
     WAITS = 0
     SIGNALS = 1
@@ -104,12 +109,11 @@ class Cause(IntEnum):
     STORES_TWICE = 13  # at DMAEND a byte was stored twice
     STORES_SOURCE = 14  # at DMAEND a byte was stored at an address that was read
     NO_END = 15  # no DMAEND is among the first `most` instructions
-    STORES_ZEROS = 16  # a DMASTZ sets bytes to 0, which only explain_work lists
-    UNSET_SAR = 17  # for explain, the instruction uses a register that the program hasn't set
-    UNSET_DAR = 18  # also for a DMAMOV DAR, DMAADDH or DMAADNH while bytes are in the buffer
-    UNSET_CCR = 19
-    UNSET_LC0 = 20
-    UNSET_LC1 = 21
+    UNSET_SAR = 16  # the instruction uses a register that isn't known, and that the program hasn't set
+    UNSET_DAR = 17  # also for a DMAMOV DAR, DMAADDH or DMAADNH while bytes are in the buffer
+    UNSET_CCR = 18
+    UNSET_LC0 = 19
+    UNSET_LC1 = 20
 
 
 class Csr(IntEnum):
@@ -177,7 +181,7 @@ class Run(NamedTuple):
 class Report(NamedTuple):
     """What some steps of a controller's channel did."""
     taken: int  # the number of steps, the last one included, whatever it did
-    turn: Turn  # what the last one did
+    last: LastStep  # what the last one did
     channel: int  # of HELD: the channel of the conflicting transfer
     cookie: int  # of STARTED and FINISHED; of HELD that of the conflicting transfer
     event: int  # of WAITING
@@ -188,7 +192,7 @@ class Report(NamedTuple):
 class ChannelReport(NamedTuple):
     """What some steps of a `Channel` did."""
     taken: int  # the number of steps, the last one included, whatever it did
-    turn: ChannelTurn  # what the last one did
+    last: LastStep  # what the last one did
     event: int  # of SIGNALLED: whose flag it set; of WAITING: the one it waits for
     fault: Optional[Fault]  # of FAULT, else None
     pc: int  # the offset of the next instruction; of WAITING, FAULT and ENDED that of the last one
@@ -211,6 +215,7 @@ class Registers(NamedTuple):
 class DeviceTurn(NamedTuple):
     """What a turn of a device's channel did."""
     written: Segment  # its steps wrote each byte of this range, and no other; its len is 0 if they wrote nothing
+    taken: int  # the number of steps, the last one included, whatever it did
     lines_changed: bool  # whether `irqs` or `irq_abort` has changed
     can_step: bool  # what `can_step` is now
 
@@ -218,23 +223,21 @@ class DeviceTurn(NamedTuple):
 @dataclass(frozen=True)
 class DeviceRows:
     """What several turns of a device's channel did, one for each row."""
-    written: Segment  # what the first turn wrote
-    pitch: int  # turn k, counted from 0, wrote written.len bytes from written.addr + k * pitch on
+    turn: DeviceTurn  # what the first turn wrote, the steps of each turn, and the rest of all turns together
+    pitch: int  # turn k, counted from 0, wrote as many bytes from turn.written.addr + k * pitch on
     count: int  # the number of turns, at least 1
     steps: int  # each turn is what `Device.step` does with this `most`
-    lines_changed: bool
-    can_step: bool
-    taken: int  # the number of steps that each turn took: together they took count * taken
 
     def ranges(self) -> Iterator[Segment]:
         """Returns the range that each turn wrote, in order."""
-        return (Segment(self.written.addr + k * self.pitch, self.written.len) for k in range(self.count))
+        first = self.turn.written
+        return (Segment(first.addr + k * self.pitch, first.len) for k in range(self.count))
 
 
 class RunEnd(NamedTuple):
     """How a program that ran alone ended."""
     end: End
-    turns: int  # of ENDED: the number of executed instructions, DMAEND included
+    steps: int  # of ENDED: the number of executed instructions, DMAEND included
     event: int  # of WAITING
     fault: Optional[Fault]  # of FAULT, else None
     pc: int  # of FAULT: the offset of the instruction
@@ -247,39 +250,33 @@ class Repeated(NamedTuple):
     times: int
 
 
-class Happening(NamedTuple):
-    """A DMAWFE or a DMASEV that a program executes, and how many bytes it has stored before."""
-    kind: HappeningKind
-    event: int
-    stored: int
+class Start(NamedTuple):
+    """The registers with which a program begins; None may be anything, as after another program."""
+    sar: Optional[int] = None
+    dar: Optional[int] = None
+    ccr: Optional[int] = None
+    lc0: Optional[int] = None
+    lc1: Optional[int] = None
 
 
-class Moment(NamedTuple):
+class Event(NamedTuple):
     """A DMAWFE or a DMASEV that a program executes, and how many bytes it has copied, and set to 0, before."""
-    kind: HappeningKind
+    kind: EventKind
     event: int
     copied: int
     cleared: int
 
 
 class Explanation(NamedTuple):
-    """What a program copies: byte number p that it reads is byte number p that it stores."""
+    """What a program copies, byte number p that it reads being byte number p that it stores, and what its DMASTZ set to
+    0: other bytes, each once, and none that it reads."""
     src: List[Repeated]  # what it reads, in the order of the run
     dst: List[Segment]  # where it stores that
-    happenings: List[Happening]
-    size: int  # the number of bytes
-    steps: int  # the number of instructions executed, DMAEND included
-
-
-class Work(NamedTuple):
-    """What a program copies, and what its DMASTZ set to 0: other bytes, each once, and none that it reads."""
-    src: List[Repeated]
-    dst: List[Segment]
     zeros: List[Segment]  # what it sets to 0, in the order of the run
-    moments: List[Moment]
+    events: List[Event]
     copied: int  # the number of bytes that it copies
     cleared: int  # the number of bytes that it sets to 0
-    steps: int
+    steps: int  # the number of instructions executed, DMAEND included
 
 
 def segment_of(raw: Any) -> Segment:
@@ -292,3 +289,7 @@ def registers_of(raw: Any) -> Registers:
 
 def fault_of(number: int) -> Optional[Fault]:
     return Fault(number) if number else None
+
+
+def turn_of(raw: Any) -> DeviceTurn:
+    return DeviceTurn(segment_of(raw.written), raw.taken, raw.lines_changed == 1, raw.can_step == 1)

@@ -22,7 +22,7 @@ def read_dump(path):
 
 
 def lend(found, program):
-    """2. Memory for all that the program reads and writes, which `explain_work` lists without running it, and for the
+    """2. Memory for all that the program reads and writes, which `explain` lists without running it, and for the
     program itself, at the first address from which on there is room. Returns regions, and the program's address."""
     ranges = sorted((one[0], one[0] + one[1]) for one in [*found.src, *found.dst, *found.zeros])
     joined = []
@@ -41,7 +41,7 @@ def lend(found, program):
 def trace(program, bus):
     """3. A driver writes the program's address to the device, and the channel takes one step after another. Where it
     waits for an event, the driver sets it. Returns a row for each instruction: its number, and SAR and DAR after it."""
-    found = dma330.explain_work(program, bus)
+    found = dma330.explain(program, bus, dma330.Registers())
     regions, at = lend(found, program)
     chip = dma330.Device(bus=bus, regions=regions)
     chip.go(CHANNEL, at)

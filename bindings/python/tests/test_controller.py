@@ -6,7 +6,7 @@ import tracemalloc
 import unittest
 
 import dma330
-from dma330 import Controller, MarkKind, Result, Status, Turn
+from dma330 import Controller, Access, Result, Status, LastStep
 
 
 class Controllers(unittest.TestCase):
@@ -26,7 +26,7 @@ class Controllers(unittest.TestCase):
         with self.assertRaises(dma330.SourceMeetsDestination) as caught:
             it.submit(0, (0, 8), (4, 8))
         error = caught.exception
-        self.assertEqual((error.code, error.name, str(error)), (-37, "SOURCE_MEETS_DESTINATION", error.name))
+        self.assertEqual((error.code, error.name, str(error)), (-23, "SOURCE_MEETS_DESTINATION", error.name))
         self.assertIsInstance(error, ValueError)
         many = [(8 * n, 4) for n in range(65)]
         rows = [(dma330.TotalsDiffer, lambda: it.submit(0, [(0, 8)], [(16, 4)])),
@@ -40,8 +40,8 @@ class Controllers(unittest.TestCase):
                 (dma330.NoChannel, lambda: it.submit(2, (0, 1), (1, 1))),
                 (dma330.OutOfMemoryRange, lambda: it.submit(0, (4095, 2), (0, 2))),
                 (dma330.NoChannel, lambda: it.issue(2)), (dma330.NoChannel, lambda: it.step(2)),
-                (dma330.BadEvent, lambda: it.raise_event(32)), (dma330.BadKind, lambda: it.mark(2, 0, 1)),
-                (dma330.BadRange, lambda: it.mark(MarkKind.READING, 0xFFFFFFFF, 2)),
+                (dma330.BadEvent, lambda: it.raise_event(32)), (dma330.BadAccess, lambda: it.inject_error(2, 0, 1)),
+                (dma330.BadRange, lambda: it.inject_error(Access.READS, 0xFFFFFFFF, 2)),
                 (dma330.NoResult, lambda: it.result(0, 1)), (dma330.NotRunning, lambda: it.running(0)),
                 (dma330.OutOfMemoryRange, lambda: it.write(4095, b"ab")),
                 (dma330.OutOfMemoryRange, lambda: it.read(0, 0xFFFFFFFF)),
@@ -79,7 +79,7 @@ class Controllers(unittest.TestCase):
             again = pickle.loads(pickle.dumps(caught.exception))
             self.assertEqual((type(again), again.channel, str(again)), (kind, 1, str(caught.exception)))
         self.assertEqual((it.running(1).cookie, it.running_count), (1, 1))
-        self.assertEqual(it.run(1).turn, Turn.FINISHED)
+        self.assertEqual(it.run(1).last, LastStep.FINISHED)
 
     def test_events_marks_and_terminate(self):
         it = Controller(4096, 2)
@@ -87,21 +87,21 @@ class Controllers(unittest.TestCase):
         it.submit(0, (0, 16), (64, 16), wait=3, signal=4)
         it.issue(0)
         report = it.run(0)
-        self.assertEqual((report.turn, report.event), (Turn.WAITING, 3))
+        self.assertEqual((report.last, report.event), (LastStep.WAITING, 3))
         it.pause(0)
-        self.assertEqual(it.step(0).turn, Turn.PAUSED)
+        self.assertEqual(it.step(0).last, LastStep.PAUSED)
         it.resume(0)
         it.raise_event(3)
-        self.assertEqual(it.run(0).turn, Turn.FINISHED)
-        it.mark(MarkKind.WRITING, 128, 8)
+        self.assertEqual(it.run(0).last, LastStep.FINISHED)
+        it.inject_error(Access.WRITES, 128, 8)
         failing = it.submit(0, (0, 16), (128, 16))
         it.issue(0)
         report = it.run(0)
-        self.assertEqual((report.turn, report.result, report.residue), (Turn.FINISHED, Result.WRITE_FAILED, 16))
-        self.assertEqual(it.step(0).turn, Turn.HALTED)
+        self.assertEqual((report.last, report.result, report.residue), (LastStep.FINISHED, Result.WRITE_FAILED, 16))
+        self.assertEqual(it.step(0).last, LastStep.HALTED)
         queued = it.submit(0, (0, 16), (256, 16))
         self.assertEqual((it.terminate(0), it.result(0, queued).result), (1, Result.ABORTED))
-        it.unmark()
+        it.uninject_errors()
         self.assertEqual((it.result(0, failing).residue, it.unfinished(0)), (16, 0))
 
     def test_history_and_checkpoints(self):

@@ -13,9 +13,9 @@ sys.path.append(str(pathlib.Path(__file__).resolve().parents[3] / "tools"))
 
 import header
 
-ENUMS = {"turn": values.Turn, "channel_turn": values.ChannelTurn, "result_code": values.Result, "state": values.Status,
-         "mark_kind": values.MarkKind, "end": values.End, "fault": values.Fault, "cause": values.Cause,
-         "happening_kind": values.HappeningKind, "csr": values.Csr, "ftr": values.Ftr, "ftrd": values.Ftrd}
+ENUMS = {"last_step": values.LastStep, "result_code": values.Result, "state": values.Status, "access": values.Access,
+         "end": values.End, "fault": values.Fault, "known": values.Known, "cause": values.Cause,
+         "event_kind": values.EventKind, "csr": values.Csr, "ftr": values.Ftr, "ftrd": values.Ftrd}
 
 
 class Declarations(unittest.TestCase):

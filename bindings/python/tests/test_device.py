@@ -39,12 +39,12 @@ class Devices(unittest.TestCase):
         put(ram, 0, dma330.plan((RAM + 0x10000, 4096), (RAM + 0x20000, 4096), signal=5, bus=128))
         self.assertRaises(dma330.NoProgram, it.explain, 2)
         it.go(2, RAM)
-        found, work = it.explain(2), it.explain_work(2)
+        found = it.explain(2)
         self.assertEqual((found.src, found.dst), ([(RAM + 0x10000, 4096, 1)], [(RAM + 0x20000, 4096)]))
-        self.assertEqual((work.src, work.dst, work.zeros, work.copied), (found.src, found.dst, [], 4096))
+        self.assertEqual((found.zeros, found.copied, found.cleared), ([], 4096, 0))
         self.assertEqual(it.status(2), Csr.EXECUTING)
         turn = it.step(2, 8)
-        self.assertEqual((turn.can_step, turn.lines_changed), (True, False))
+        self.assertEqual((turn.taken, turn.can_step, turn.lines_changed), (8, True, False))
         self.assertEqual(turn.written, (RAM + 0x20000, it.registers(2).stored))
         it.run()
         self.assertEqual((it.irqs, it.status(2), it.irq_abort), (1 << 5, Csr.STOPPED, False))
@@ -52,7 +52,7 @@ class Devices(unittest.TestCase):
         self.assertEqual((it.registers(2).stored, it.registers(2).taken), (4096, found.steps))
         it[reg.INTCLR] = 1 << 5
         self.assertEqual(it.irqs, 0)
-        self.assertRaises(dma330.NoProgram, it.explain_work, 2)
+        self.assertRaises(dma330.NoProgram, it.explain, 2)
         self.assertRaises(dma330.NoChannel, it.explain, 8)
         for call in (it.registers, it.status, it.kill, lambda channel: it.go(channel, RAM)):
             self.assertRaises(dma330.NoChannel, call, 8)
@@ -63,12 +63,9 @@ class Devices(unittest.TestCase):
         it = device(ram)
         put(ram, 0, bytes.fromhex("BC 02 80 00 00 80 BC 01 37 C0 0D 00 0C 34 18 00"))  # DMASTZ: 4 beats of 8 bytes
         it.go(1, RAM)
-        with self.assertRaises(dma330.Unexplained) as caught:
-            it.explain(1)
-        self.assertEqual(caught.exception.cause, dma330.Cause.STORES_ZEROS)
-        work = it.explain_work(1)
-        self.assertEqual((work.zeros, work.cleared, work.copied), ([(RAM + 0x80, 32)], 32, 0))
-        self.assertEqual(work.moments, [(dma330.HappeningKind.SIGNALS, 3, 0, 32)])
+        found = it.explain(1)
+        self.assertEqual((found.zeros, found.cleared, found.copied), ([(RAM + 0x80, 32)], 32, 0))
+        self.assertEqual(found.events, [(dma330.EventKind.SIGNALS, 3, 0, 32)])
         it.run()
         self.assertEqual((ram[0x7F:0xA1], it.irqs), (b"\xFF" + bytes(32) + b"\xFF", 1 << 3))
 
@@ -88,7 +85,7 @@ class Devices(unittest.TestCase):
                     found = it.step_rows(0, 1000)
                     self.assertEqual(len(list(found.ranges())), found.count)
                     ranges += found.ranges()
-                    steps += found.count * found.taken
+                    steps += found.count * found.turn.taken
                 else:
                     ranges.append(it.step(0, 1000).written)
             if by_rows:

@@ -19,7 +19,7 @@ from dma330 import Channel, Controller, Device, Region, _library
 from dma330 import registers as reg
 
 # An argument that a call takes, by its name.
-GOOD = {"addr": 0, "bus": 64, "channel": 0, "cookie": 1, "data": b"a", "dst": (32, 1), "event": 0, "kind": 0,
+GOOD = {"addr": 0, "bus": 64, "channel": 0, "cookie": 1, "data": b"a", "dst": (32, 1), "event": 0, "access": 0,
         "limit": 10, "lines": 1, "memory": bytearray(8), "most": 1, "offset": 0, "program": b"\0",
         "regions": (), "revision": 0, "save": b"", "signal": 0, "size": 1, "src": 0, "start": dma330.Registers(),
         "text": "", "turns": 1, "value": 0, "wait": 0, "nonsecure": False}
@@ -238,9 +238,9 @@ class Hostile(unittest.TestCase):
                 self.assertEqual(run_python("\n".join([*lines, last]), "-X", "dev", "-W", "error"), (0, ""))
 
     def test_wrong_libraries(self):
-        self.assertRaises(ImportError, _library.load, "/nowhere/libdma330.so.1", "1.6.0")
-        self.assertRaises(ImportError, _library.load, os.path.abspath(__file__), "1.6.0")
-        self.assertRaises(ImportError, _library.load, "libc.so.6", "1.6.0")
+        self.assertRaises(ImportError, _library.load, "/nowhere/libdma330.so.1", "1.0.0")
+        self.assertRaises(ImportError, _library.load, os.path.abspath(__file__), "1.0.0")
+        self.assertRaises(ImportError, _library.load, "libc.so.6", "1.0.0")
         major, minor = (int(it) for it in dma330.version().split()[1].split("."))
         path = _library._path()
         for needed in ((major + 1, 0), (major - 1, 0), (major, minor + 1)):

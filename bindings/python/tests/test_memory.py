@@ -9,7 +9,7 @@ import tempfile
 import unittest
 
 import dma330
-from dma330 import Channel, ChannelTurn, Fault, Region
+from dma330 import Channel, LastStep, Fault, Region
 
 try:
     import numpy
@@ -25,9 +25,9 @@ class Memory(unittest.TestCase):
         it = Channel([Region(RAM, ram)])
         it.load_copy((RAM, 8192), (RAM + 8192, 8192), signal=7)
         report = it.step()
-        self.assertEqual((report.turn, report.event, it.flags), (ChannelTurn.SIGNALLED, 7, 1 << 7))
+        self.assertEqual((report.last, report.event, it.flags), (LastStep.SIGNALLED, 7, 1 << 7))
         self.assertEqual(report.written, (RAM + 8192, 8192))
-        self.assertEqual(it.run().turn, ChannelTurn.ENDED)
+        self.assertEqual(it.run().last, LastStep.ENDED)
         self.assertEqual(ram[:8192], ram[8192:])
         self.assertEqual((it.registers.stored, it.registers.is_loaded), (8192, False))
 
@@ -42,7 +42,7 @@ class Memory(unittest.TestCase):
                 it = Channel([Region(0, b"\xA5"), Region(RAM, memory)])
                 it.load_fill(0, (RAM + 3, 61))
                 with self.subTest(type(memory)):
-                    self.assertEqual(it.run().turn, ChannelTurn.ENDED)
+                    self.assertEqual(it.run().last, LastStep.ENDED)
                     self.assertEqual(memoryview(memory).tobytes(), bytes(3) + b"\xA5" * 61)
 
     @unittest.skipUnless(numpy, "there is no numpy: the tests of its arrays are")
@@ -51,7 +51,7 @@ class Memory(unittest.TestCase):
         dst = numpy.zeros(src.shape, dtype=">u4")
         it = Channel([Region(0, src, read_only=True), Region(1 << 24, dst)])
         it.load_copy((numpy.uint32(0), src.nbytes), (1 << 24, numpy.int64(dst.nbytes)))
-        self.assertEqual(it.run().turn, ChannelTurn.ENDED)
+        self.assertEqual(it.run().last, LastStep.ENDED)
         self.assertEqual(src.tobytes(), dst.tobytes())
         frozen = numpy.zeros(8)
         frozen.flags.writeable = False
@@ -66,13 +66,13 @@ class Memory(unittest.TestCase):
         it = Channel([Region(0x2000, ram), Region(0x1000, rom)])
         self.assertEqual([one.addr for one in it.regions], [0x1000, 0x2000])
         it.load_copy((0x1000, 256), (0x2000, 256))
-        self.assertEqual(it.run().turn, ChannelTurn.ENDED)
+        self.assertEqual(it.run().last, LastStep.ENDED)
         self.assertEqual(ram, rom)
         for memory in (Region(0x1000, rom), Region(0x1000, bytearray(rom), read_only=True)):
             it.regions = [memory, Region(0x2000, ram)]
             it.load_copy((0x2000, 4), (0x1000, 4))
             report = it.run()
-            self.assertEqual((report.turn, report.fault), (ChannelTurn.FAULT, Fault.DATA_WRITE_ERR))
+            self.assertEqual((report.last, report.fault), (LastStep.FAULT, Fault.DATA_WRITE_ERR))
         self.assertEqual(rom, b"ROM!" * 64)
 
     def test_what_is_refused(self):
@@ -111,7 +111,7 @@ class Memory(unittest.TestCase):
             gc.collect()
             self.assertEqual(len([bytearray(4096) for _ in range(64)]), 64)  # takes what was freed
         it.load_fill(RAM, (RAM + 256, 4 * 4096 - 256))
-        self.assertEqual(it.run().turn, ChannelTurn.ENDED)
+        self.assertEqual(it.run().last, LastStep.ENDED)
         self.assertTrue(all(one.buffer == b"\x11" * 4096 for one in it.regions))
 
     def test_regions_that_the_library_refuses(self):
@@ -126,7 +126,7 @@ class Memory(unittest.TestCase):
             with self.subTest(name), self.assertRaises(dma330.BadRegions):
                 it.step()
         it.regions = rows["65"][:64]
-        self.assertEqual(it.run().turn, ChannelTurn.ENDED)
+        self.assertEqual(it.run().last, LastStep.ENDED)
 
     def test_shared_bytes_are_refused(self):
         ram = bytearray(64)
@@ -139,7 +139,7 @@ class Memory(unittest.TestCase):
     def test_empty_memory(self):
         it = Channel([Region(0, bytearray()), Region(1, b""), Region(2, bytearray(8))])
         it.load_fill(2, (3, 7))
-        self.assertEqual(it.run().turn, ChannelTurn.ENDED)
+        self.assertEqual(it.run().last, LastStep.ENDED)
         it = Channel()
         it.load_fill(2, (3, 7))
         self.assertEqual(it.run().fault, Fault.DATA_READ_ERR)
@@ -148,7 +148,7 @@ class Memory(unittest.TestCase):
         ram = bytearray(b"\7" + bytes(15))
         it = Channel([Region(0xFFFFFFF0, ram)])
         it.load_fill(0xFFFFFFF0, (0xFFFFFFF1, 15))
-        self.assertEqual((it.run().turn, ram), (ChannelTurn.ENDED, b"\7" * 16))
+        self.assertEqual((it.run().last, ram), (LastStep.ENDED, b"\7" * 16))
 
     def test_a_region_is_neither_copied_nor_changed(self):
         it = Region(RAM, bytearray(16))
@@ -188,15 +188,15 @@ class Channels(unittest.TestCase):
         it = Channel([Region(0, ram)])
         it.load_copy((0, 64), (64, 64), wait=3)
         report = it.run()
-        self.assertEqual((report.turn, report.event), (ChannelTurn.WAITING, 3))
+        self.assertEqual((report.last, report.event), (LastStep.WAITING, 3))
         it.flags |= 1 << 3
-        it.mark(dma330.MarkKind.READING, 0, 1)
+        it.inject_error(dma330.Access.READS, 0, 1)
         self.assertEqual(it.run().fault, Fault.DATA_READ_ERR)
-        it.unmark()
+        it.uninject_errors()
         other = Channel(it.regions)
         other.restore(it.save())
         self.assertEqual(other.registers, it.registers)
-        self.assertEqual((other.run().turn, other.flags), (ChannelTurn.ENDED, 0))
+        self.assertEqual((other.run().last, other.flags), (LastStep.ENDED, 0))
         self.assertEqual(ram[:64], ram[64:])
         with self.assertRaises(dma330.BadSave):
             other.restore(b"no save")
@@ -209,13 +209,13 @@ class Channels(unittest.TestCase):
         with self.assertRaises(dma330.NoProgram):
             it.step()
         it.load_from(32)
-        self.assertEqual((it.run().turn, ram[64:80]), (ChannelTurn.ENDED, ram[:16]))
+        self.assertEqual((it.run().last, ram[64:80]), (LastStep.ENDED, ram[:16]))
         it.load_program(dma330.plan((0, 16), (80, 16)))
         it.stop()
         self.assertRaises(dma330.NoProgram, it.step)
         self.assertRaises(dma330.ProgramTooLong, it.load_program, bytes(8193))
         it.load_program(memoryview(dma330.plan((0, 16), (80, 16))))
-        self.assertEqual((it.run().turn, ram[80:96]), (ChannelTurn.ENDED, ram[:16]))
+        self.assertEqual((it.run().last, ram[80:96]), (LastStep.ENDED, ram[:16]))
 
     def test_a_program_without_an_end(self):
         it = Channel()

@@ -2,7 +2,7 @@
 import unittest
 
 import dma330
-from dma330 import Cause, End, HappeningKind, Registers
+from dma330 import Cause, End, EventKind, Registers, Start
 
 TEXT = """DMAMOV SAR 0x00001000
 DMAMOV DAR 0x00002000
@@ -27,7 +27,7 @@ CAUSES = {Cause.UNDEF_INSTR: (64, "25 00"), Cause.OPERAND_INVALID: (64, "BC 01 F
           Cause.BYTES_LEFT: (64, MOVES + WORDS + "04 00"),
           Cause.STORES_TWICE: (64, MOVES + WORDS + "04 08 BC 02 00 20 00 00 04 08 00"),
           Cause.STORES_SOURCE: (64, "BC 00 00 10 00 00 BC 02 00 10 00 00 " + WORDS + "04 08 00"),
-          Cause.NO_END: (64, "20 01 38 02"), Cause.STORES_ZEROS: (64, MOVES + WORDS + "0C 00"),
+          Cause.NO_END: (64, "20 01 38 02"),
           Cause.UNSET_SAR: (64, WORDS + "04 00"), Cause.UNSET_CCR: (64, MOVES + "04 08 00"),
           Cause.UNSET_DAR: (64, "BC 00 00 10 00 00 " + WORDS + "04 BC 02 00 20 00 00 08 00"),
           Cause.UNSET_LC0: (64, "22 01 38 00 00"), Cause.UNSET_LC1: (64, "20 01 3C 00 00")}
@@ -37,8 +37,8 @@ class Programs(unittest.TestCase):
     def test_explain(self):
         program = dma330.assemble(TEXT)
         found = dma330.explain(program)
-        self.assertEqual((found.src, found.dst, found.size), ([(0x1000, 1024, 1)], [(0x2000, 1024)], 1024))
-        self.assertEqual((found.happenings, found.steps), ([(HappeningKind.SIGNALS, 3, 1024)], 18))
+        self.assertEqual((found.src, found.dst, found.copied), ([(0x1000, 1024, 1)], [(0x2000, 1024)], 1024))
+        self.assertEqual((found.events, found.steps), ([(EventKind.SIGNALS, 3, 1024, 0)], 18))
         with self.assertRaises(dma330.Unexplained) as caught:
             dma330.explain(program[:-1])
         error = caught.exception
@@ -51,20 +51,28 @@ class Programs(unittest.TestCase):
         self.assertEqual({Cause.NONE, *CAUSES}, set(Cause))
         for cause, (bus, text) in CAUSES.items():
             with self.subTest(cause.name), self.assertRaises(dma330.Unexplained) as caught:
-                dma330.explain(bytes.fromhex(text), bus, 1000)
+                dma330.explain(bytes.fromhex(text), bus, most=1000)
             self.assertEqual(caught.exception.cause, cause)
 
-    def test_explain_work(self):
+    def test_explain_from_registers(self):
         program = bytes([0x04, 0x08, 0x0C, 0x34, 7 << 3, 0x00])  # DMALD, DMAST, DMASTZ, DMASEV 7, DMAEND
         start = Registers(sar=0x1000, dar=0x2000, ccr=0x00014005)
-        found = dma330.explain_work(program, 32, start)
+        found = dma330.explain(program, 32, start)
         self.assertEqual((found.src, found.dst, found.zeros), ([(0x1000, 4, 1)], [(0x2000, 4)], [(0x2004, 4)]))
-        self.assertEqual(found.moments, [(HappeningKind.SIGNALS, 7, 4, 4)])
+        self.assertEqual(found.events, [(EventKind.SIGNALS, 7, 4, 4)])
         self.assertEqual((found.copied, found.cleared, found.steps), (4, 4, 5))
         with self.assertRaises(dma330.Unexplained) as caught:
-            dma330.explain_work(bytes([4, 8, 0]), 32, Registers(sar=0x1000, dar=0x1000, ccr=0x00014005))
+            dma330.explain(bytes([4, 8, 0]), 32, Registers(sar=0x1000, dar=0x1000, ccr=0x00014005))
         self.assertEqual((caught.exception.cause, caught.exception.addr), (Cause.STORES_SOURCE, 0x1000))
-        self.assertRaises(dma330.BadConfig, dma330.explain_work, program, 32, Registers(ccr=0xFFFFFFFF))
+        self.assertRaises(dma330.BadConfig, dma330.explain, program, 32, Registers(ccr=0xFFFFFFFF))
+        for lacks, cause, pc in (("sar", Cause.UNSET_SAR, 0), ("ccr", Cause.UNSET_CCR, 0), ("dar", Cause.UNSET_DAR, 1)):
+            known = {"sar": 0x1000, "dar": 0x2000, "ccr": 0x00014005}
+            del known[lacks]
+            with self.subTest(lacks), self.assertRaises(dma330.Unexplained) as caught:
+                dma330.explain(program, 32, Start(**known))
+            self.assertEqual((caught.exception.cause, caught.exception.pc), (cause, pc))
+        known = Start(sar=0x1000, dar=0x2000, ccr=0x00014005)
+        self.assertEqual(dma330.explain(program, 32, known), found)
 
     def test_lists_longer_than_the_first_room(self):
         lists = [[(start + 0x200 * n, 8) for n in range(64)] for start in (0x10000, 0x40004)]
@@ -73,15 +81,14 @@ class Programs(unittest.TestCase):
         # 256 bytes of DMASEVs, 100 times
         program = bytes([0x20, 99]) + b"\x34\x08" * 125 + bytes([0x38, 250, 0])
         found = dma330.explain(program)
-        self.assertEqual(found.happenings, [(HappeningKind.SIGNALS, 1, 0)] * 12500)
-        self.assertEqual(len(dma330.explain_work(program).moments), 12500)
+        self.assertEqual(found.events, [(EventKind.SIGNALS, 1, 0, 0)] * 12500)
 
     def test_plans(self):
         for bus in (0, 32, 64, 128):
             with self.subTest(bus):
                 found = dma330.explain(dma330.plan((0x1001, 300), [(0x2002, 100), (0x3003, 200)], 1, 2, bus), bus)
                 self.assertEqual((found.src, found.dst), ([(0x1001, 300, 1)], [(0x2002, 100), (0x3003, 200)]))
-                self.assertEqual(found.happenings, [(HappeningKind.WAITS, 1, 0), (HappeningKind.SIGNALS, 2, 300)])
+                self.assertEqual(found.events, [(EventKind.WAITS, 1, 0, 0), (EventKind.SIGNALS, 2, 300, 0)])
                 found = dma330.explain(dma330.plan_fill(0x1000, (0x2002, 300), bus=bus), bus)
                 self.assertEqual((found.src, found.dst), ([(0x1000, 1, 300)], [(0x2002, 300)]))
         self.assertRaises(dma330.SourceMeetsDestination, dma330.plan, (0, 8), (4, 8))
@@ -113,7 +120,7 @@ class Programs(unittest.TestCase):
         end = dma330.run_program(b"\x18", memory)
         self.assertEqual((end.end, end.fault, end.pc), (End.FAULT, dma330.Fault.INSTR_FETCH_ERR, 1))
         self.assertEqual(dma330.run_program(b"\x36\x08\0", memory)[:3], (End.WAITING, 0, 1))
-        self.assertEqual(dma330.run_program(b"\x18" * 9, memory, 3).end, End.OUT_OF_TURNS)
+        self.assertEqual(dma330.run_program(b"\x18" * 9, memory, 3).end, End.OUT_OF_STEPS)
         self.assertRaises(dma330.SizeOutOfRange, dma330.run_program, b"\0", bytearray())
         self.assertRaises(TypeError, dma330.run_program, b"\0", b"\0")
 

@@ -2,7 +2,7 @@
 //! the main loop steps them, and the guest polls for completion. It prints the text of examples/c/example.txt, as the
 //! example in C does.
 
-use dma330::{Controller, Error, Events, Segment, Status, TransferResult, Turn};
+use dma330::{Controller, Error, Events, Segment, Status, Step, TransferResult};
 
 fn print_memory(controller: &mut Controller, addr: u32, count: usize) -> Result<(), Error> {
     let mut bytes = vec![0; count];
@@ -99,11 +99,11 @@ impl Device {
         for (number, channel) in (0..).zip(&mut self.channels) {
             let last = self.controller.step(number, STEPS_OF_A_TURN)?.last;
             match last {
-                Some(Turn::Waiting { event }) if !channel.waits => println!("channel {number} waits for event {event}"),
-                Some(Turn::Finished { cookie, .. }) => println!("channel {number} finished cookie {cookie}"),
+                Some(Step::Waiting { event }) if !channel.waits => println!("channel {number} waits for event {event}"),
+                Some(Step::Finished { cookie, .. }) => println!("channel {number} finished cookie {cookie}"),
                 _ => {}
             }
-            channel.waits = matches!(last, Some(Turn::Waiting { .. }));
+            channel.waits = matches!(last, Some(Step::Waiting { .. }));
         }
         Ok(())
     }

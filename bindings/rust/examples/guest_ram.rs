@@ -2,7 +2,7 @@
 //! from there a few steps at a time, and the guest's CPU goes on in the same RAM between the steps. DMASEV raises an
 //! interrupt line.
 
-use dma330::{assemble, Channel, ChannelTurn, Error, Region};
+use dma330::{assemble, Channel, ChannelStep, Error, Region};
 
 const RAM_BASE: u32 = 0x8000_0000;
 const RAM_SIZE: usize = 1 << 20;
@@ -54,10 +54,10 @@ impl Machine {
     }
 
     // Takes the channel's steps of a round, and returns what the last one did.
-    fn turn(&mut self) -> Result<ChannelTurn, Error> {
+    fn turn(&mut self) -> Result<ChannelStep, Error> {
         let regions = &mut [Region::new(RAM_BASE, &mut self.ram)];
         let steps = self.channel.step(regions, &mut self.flags, STEPS_OF_A_ROUND)?;
-        if let ChannelTurn::Signalled { event } = steps.last {
+        if let ChannelStep::Signalled { event } = steps.last {
             // a DMA-330 has a line for each event that is set up to be an interrupt
             self.flags &= !(1 << event);
             self.interrupts |= 1 << event;
@@ -82,11 +82,11 @@ fn main() -> Result<(), Error> {
     machine.go(PROGRAM)?;
     while machine.interrupts == 0 {
         machine.execute();
-        if let ChannelTurn::Fault { fault } = machine.turn()? {
+        if let ChannelStep::Fault { fault } = machine.turn()? {
             panic!("the guest's program fails: {fault:?}");
         }
     }
-    assert_eq!(machine.turn()?, ChannelTurn::Ended);
+    assert_eq!(machine.turn()?, ChannelStep::Ended);
     assert_eq!(machine.interrupts, 1 << 7);
     assert_eq!(machine.bytes(MAILBOX, message.len()), message);
     // three moves, a loop of 64 rounds of three, the loop's start and DMASEV: 197 steps, eight in a round

@@ -1,7 +1,7 @@
 //! A controller with a thread of its own, to which I/O threads send their copies; each waits until its copy is
 //! complete.
 
-use dma330::{Controller, Error, Events, Outcome, Segment, TransferResult, Turn};
+use dma330::{Controller, Error, Events, Outcome, Segment, Step, TransferResult};
 use std::collections::HashMap;
 use std::sync::mpsc::{channel, Receiver, Sender, TryRecvError};
 use std::thread;
@@ -40,7 +40,7 @@ impl Owner {
     // Takes some steps of each channel, and answers the threads whose copies have finished.
     fn turn(&mut self) -> Result<(), Error> {
         for channel in 0..CHANNELS {
-            if let Some(Turn::Finished { cookie, outcome }) = self.controller.step(channel, STEPS_OF_A_TURN)?.last {
+            if let Some(Step::Finished { cookie, outcome }) = self.controller.step(channel, STEPS_OF_A_TURN)?.last {
                 if let Some(done) = self.waiting.remove(&(channel, cookie)) {
                     done.send(Ok(outcome)).unwrap_or_default();
                 }

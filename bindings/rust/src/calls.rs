@@ -23,7 +23,7 @@ mod over_regions;
 mod programs;
 
 pub use over_regions::{ChannelHandle, DeviceHandle};
-pub use programs::{assemble, disassemble, explain, explain_work, plan, plan_fill, run_program, RawExplained};
+pub use programs::{assemble, disassemble, explain, plan, plan_fill, run_program, RawExplained};
 
 use crate::sys::*;
 use crate::{Error, Segment};
@@ -267,14 +267,14 @@ impl Handle {
         count
     }
 
-    pub fn mark(&mut self, kind: u32, range: Segment) -> Result<(), Error> {
+    pub fn inject_error(&mut self, access: u32, range: Segment) -> Result<(), Error> {
         // SAFETY: Nobody else uses the controller.
-        checked(unsafe { dma330_mark(self.raw.get_mut(), kind, range) }, ())
+        checked(unsafe { dma330_inject_error(self.raw.get_mut(), access, range) }, ())
     }
 
-    pub fn unmark(&mut self) -> Result<(), Error> {
+    pub fn uninject_errors(&mut self) -> Result<(), Error> {
         // SAFETY: Nobody else uses the controller.
-        checked(unsafe { dma330_unmark(self.raw.get_mut()) }, ())
+        checked(unsafe { dma330_uninject_errors(self.raw.get_mut()) }, ())
     }
 
     pub fn raise(&mut self, event: u8) -> Result<(), Error> {

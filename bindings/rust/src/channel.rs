@@ -1,11 +1,11 @@
 //! A channel without a controller, over memory and event flags of its caller.
 
-use crate::{calls, event, named, number_of, small, sys, unnamed, Error, Events, Fault, MarkKind, Region, Segment};
+use crate::{calls, event, named, number_of, small, sys, unnamed, Access, Error, Events, Fault, Region, Segment};
 use std::fmt;
 
 /// What the last of some steps of a [`Channel`] did.
 #[derive(Clone, Copy, Debug, PartialEq, Eq, Hash)]
-pub enum ChannelTurn {
+pub enum ChannelStep {
     /// No step was taken: `most` was 0, or 4294967295 instructions were executed since the load.
     NoStep,
     /// An instruction was executed.
@@ -35,7 +35,7 @@ pub struct ChannelSteps {
     /// The number of steps taken, the last one included, whatever it did.
     pub taken: u32,
     /// What the last one did.
-    pub last: ChannelTurn,
+    pub last: ChannelStep,
     /// The offset of the next instruction in the program: for `Waiting` and `Fault` that of the instruction that waits
     /// or failed, for `Ended` that of the DMAEND.
     pub pc: u32,
@@ -72,15 +72,15 @@ pub(crate) fn registers_of(raw: sys::RawRegisters) -> Registers {
     Registers { pc, sar, dar, ccr, lc0, lc1, is_loaded: is_loaded != 0, taken, stored }
 }
 
-fn turn_of(report: &sys::RawChannelReport) -> ChannelTurn {
+fn step_of(report: &sys::RawChannelReport) -> ChannelStep {
     let event = small(report.event);
-    match report.turn {
-        sys::CHANNEL_NO_STEP => ChannelTurn::NoStep,
-        sys::CHANNEL_MOVED => ChannelTurn::Moved,
-        sys::CHANNEL_WAITING => ChannelTurn::Waiting { event },
-        sys::CHANNEL_ENDED => ChannelTurn::Ended,
-        sys::CHANNEL_FAULT => ChannelTurn::Fault { fault: named(&sys::FAULTS, report.fault) },
-        sys::CHANNEL_SIGNALLED => ChannelTurn::Signalled { event },
+    match report.last {
+        sys::NO_STEP => ChannelStep::NoStep,
+        sys::MOVED => ChannelStep::Moved,
+        sys::WAITING => ChannelStep::Waiting { event },
+        sys::ENDED => ChannelStep::Ended,
+        sys::FAULT => ChannelStep::Fault { fault: named(&sys::FAULTS, report.fault) },
+        sys::SIGNALLED => ChannelStep::Signalled { event },
         number => unnamed(number),
     }
 }
@@ -92,7 +92,7 @@ fn turn_of(report: &sys::RawChannelReport) -> ChannelTurn {
 /// The channel is closed when it is dropped.
 ///
 /// ```
-/// use dma330::{assemble, Channel, ChannelSteps, ChannelTurn, Region, Segment};
+/// use dma330::{assemble, Channel, ChannelSteps, ChannelStep, Region, Segment};
 ///
 /// let mut ram = vec![0; 0x1000];
 /// ram[0x100..0x104].copy_from_slice(&[1, 2, 3, 4]);
@@ -101,11 +101,11 @@ fn turn_of(report: &sys::RawChannelReport) -> ChannelTurn {
 /// let mut channel = Channel::open()?;
 /// channel.load_program(&assemble(text)?)?;
 /// let steps = channel.step(&mut [Region::new(0x8000_0000, &mut ram)], &mut flags, 4)?;
-/// assert_eq!(steps, ChannelSteps { taken: 4, last: ChannelTurn::Moved, pc: 19, written: Segment::default() });
+/// assert_eq!(steps, ChannelSteps { taken: 4, last: ChannelStep::Moved, pc: 19, written: Segment::default() });
 /// // the program is between its load and its store
 /// ram[0x100] = 9;
 /// let steps = channel.step(&mut [Region::new(0x8000_0000, &mut ram)], &mut flags, 100)?;
-/// assert_eq!(steps.last, ChannelTurn::Signalled { event: 3 });
+/// assert_eq!(steps.last, ChannelStep::Signalled { event: 3 });
 /// assert_eq!((flags, &ram[0x200..0x204]), (1 << 3, &[1, 2, 3, 4][..]));
 /// # Ok::<(), dma330::Error>(())
 /// ```
@@ -116,7 +116,7 @@ pub struct Channel {
 }
 
 impl Channel {
-    /// Opens a channel without a program and without marks, with room for the longest program.
+    /// Opens a channel without a program and without injected errors, with room for the longest program.
     ///
     /// Fails with `NoMemory`.
     pub fn open() -> Result<Channel, Error> {
@@ -168,7 +168,7 @@ impl Channel {
     /// Fails with `BadRegions` or `NoProgram`.
     pub fn step(&mut self, regions: &mut [Region<'_>], flags: &mut u32, most: u32) -> Result<ChannelSteps, Error> {
         let report = self.handle.step(regions, flags, most)?;
-        Ok(ChannelSteps { taken: report.taken, last: turn_of(&report), pc: report.pc, written: report.written })
+        Ok(ChannelSteps { taken: report.taken, last: step_of(&report), pc: report.pc, written: report.written })
     }
 
     /// Drops the program, if one is loaded. Registers and counts stay.
@@ -181,19 +181,20 @@ impl Channel {
         registers_of(self.handle.registers())
     }
 
-    /// Marks a range, inside the memory or not, in which loads or stores of this channel, by `kind`, fail from then on.
+    /// Injects an error: loads or stores of this channel in a range, by `access`, fail from then on. The range may lie
+    /// inside the memory or not.
     ///
     /// Fails with `BadRange` or `NoMemory`.
-    pub fn mark(&mut self, kind: MarkKind, range: Segment) -> Result<(), Error> {
-        self.handle.mark(number_of(&sys::MARK_KINDS, &kind), range)
+    pub fn inject_error(&mut self, access: Access, range: Segment) -> Result<(), Error> {
+        self.handle.inject_error(number_of(&sys::ACCESSES, &access), range)
     }
 
-    /// Removes the marks of this channel.
-    pub fn unmark(&mut self) {
-        self.handle.unmark();
+    /// Removes all injected errors of this channel.
+    pub fn uninject_errors(&mut self) {
+        self.handle.uninject_errors();
     }
 
-    /// Returns the whole channel, except its marks, as bytes.
+    /// Returns the whole channel, except its injected errors, as bytes.
     ///
     /// ```
     /// use dma330::{Channel, Error};
@@ -218,7 +219,7 @@ impl Channel {
         }
     }
 
-    /// Makes the channel the one that was saved. The marks of this channel stay.
+    /// Makes the channel the one that was saved. The injected errors of this channel stay.
     ///
     /// Fails with `BadSave`.
     pub fn restore(&mut self, save: &[u8]) -> Result<(), Error> {

@@ -1,8 +1,8 @@
 //! The registers of a DMA-330 over memory of the caller.
 
 use crate::channel::registers_of;
-use crate::explain::{explanation_of, work_of};
-use crate::{calls, sys, Error, Explanation, Region, Registers, Segment, Work};
+use crate::explain::explanation_of;
+use crate::{calls, sys, Error, Explanation, Region, Registers, Segment};
 use std::fmt;
 
 /// The width of a [`Device`]'s data bus. A wider beat is an invalid operand.
@@ -48,25 +48,8 @@ pub struct DeviceTurn {
     /// The range that its steps wrote: each byte in it, also where the value stayed the same, and no other byte of the
     /// regions. Its length is 0 if they wrote nothing.
     pub written: Segment,
-    /// Whether a line of [`Device::irqs`], or [`Device::irq_abort`], has changed.
-    pub lines_changed: bool,
-    /// What [`Device::can_step`] returns now.
-    pub can_step: bool,
-}
-
-/// What several turns of a channel of a [`Device`] did. No byte outside their ranges has changed.
-#[derive(Clone, Copy, Debug, PartialEq, Eq, Hash)]
-pub struct DeviceRows {
-    /// The range that the first turn wrote, as in a [`DeviceTurn`].
-    pub written: Segment,
-    /// The distance from the beginning of each turn's range to that of the next.
-    pub pitch: u32,
-    /// The number of turns, at least 1.
-    pub count: u32,
-    /// Each turn is what [`Device::step`] does with this `most`.
-    pub steps: u32,
-    /// The number of steps that each turn took, the last one included, whatever it did: at most `steps`, and one more
-    /// after the DMASEV of an interrupt.
+    /// The number of steps, the last one included, whatever it did: at most `most`, and one more after the DMASEV of an
+    /// interrupt.
     pub taken: u64,
     /// Whether a line of [`Device::irqs`], or [`Device::irq_abort`], has changed.
     pub lines_changed: bool,
@@ -74,10 +57,32 @@ pub struct DeviceRows {
     pub can_step: bool,
 }
 
+impl DeviceTurn {
+    fn of(raw: sys::RawDeviceTurn) -> DeviceTurn {
+        let sys::RawDeviceTurn { written, taken, lines_changed, can_step } = raw;
+        DeviceTurn { written, taken, lines_changed: lines_changed != 0, can_step: can_step != 0 }
+    }
+}
+
+/// What several turns of a channel of a [`Device`] did. No byte outside their ranges has changed.
+#[derive(Clone, Copy, Debug, PartialEq, Eq, Hash)]
+pub struct DeviceRows {
+    /// What the first turn wrote, how many steps each turn took, and of all turns together whether a line has changed
+    /// and whether a channel can step now.
+    pub turn: DeviceTurn,
+    /// The distance from the beginning of each turn's range to that of the next.
+    pub pitch: u32,
+    /// The number of turns, at least 1.
+    pub count: u32,
+    /// Each turn is what [`Device::step`] does with this `most`.
+    pub steps: u32,
+}
+
 impl DeviceRows {
     /// Returns the range that each turn wrote, in order. A turn that wrote nothing has a range of length 0.
     pub fn ranges(self) -> impl Iterator<Item = Segment> {
-        (0..self.count).map(move |k| Segment { addr: self.written.addr + k * self.pitch, ..self.written })
+        let first = self.turn.written;
+        (0..self.count).map(move |k| Segment { addr: first.addr + k * self.pitch, ..first })
     }
 }
 
@@ -122,8 +127,8 @@ pub struct Device {
 }
 
 impl Device {
-    /// Opens a device in its state after a reset. Of the other calls only [`Device::explain`] and
-    /// [`Device::explain_work`] allocate memory in the library.
+    /// Opens a device in its state after a reset. Of the other calls only [`Device::explain`] allocates memory in the
+    /// library.
     ///
     /// Fails with `BadConfig` or `NoMemory`.
     pub fn open(config: DeviceConfig) -> Result<Device, Error> {
@@ -167,32 +172,22 @@ impl Device {
     ///
     /// Fails with `BadRegions`.
     pub fn step(&mut self, channel: u8, most: u32, regions: &mut [Region<'_>]) -> Result<DeviceTurn, Error> {
-        let turn = self.handle.step(channel, most, regions)?;
-        let (lines_changed, can_step) = (turn.lines_changed != 0, turn.can_step != 0);
-        Ok(DeviceTurn { written: turn.written, lines_changed, can_step })
+        self.handle.step(channel, most, regions).map(DeviceTurn::of)
     }
 
     /// Takes several turns of a channel, one for each row, where a loop copies the rows of a rectangle by pairs of DMALD
     /// and DMAST, then DMAADDH SAR or not, then DMAADDH DAR. Else it takes one turn, which may end early where rows
     /// begin. The result is that of `count` calls of [`Device::step`] with a `most` of `steps`; `count` times `steps` is
-    /// at most `most`. Together they took `count` times `taken` steps.
+    /// at most `most`. Together they took `count` times `turn.taken` steps.
     ///
     /// Fails with `BadRegions`.
     pub fn step_rows(&mut self, channel: u8, most: u32, regions: &mut [Region<'_>]) -> Result<DeviceRows, Error> {
         let rows = self.handle.step_rows(channel, most, regions)?;
-        Ok(DeviceRows {
-            written: rows.written,
-            pitch: rows.pitch,
-            count: rows.count,
-            steps: rows.steps,
-            taken: rows.taken,
-            lines_changed: rows.lines_changed != 0,
-            can_step: rows.can_step != 0,
-        })
+        Ok(DeviceRows { turn: DeviceTurn::of(rows.turn), pitch: rows.pitch, count: rows.count, steps: rows.steps })
     }
 
     /// Returns the registers and counts of a channel. If the channel has failed, they are those from before the
-    /// instruction that failed. After each turn of a program that a DMAGO started and [`Device::explain_work`]
+    /// instruction that failed. After each turn of a program that a DMAGO started and [`Device::explain`]
     /// explained before the first turn, `stored` bytes of its destinations and zeros are done, of each list the first
     /// ones, also if the channel then waits or is faulting, if nobody else writes what the program reads or writes.
     ///
@@ -201,7 +196,7 @@ impl Device {
         self.handle.registers(channel).map(registers_of)
     }
 
-    /// Returns what the program copies that a DMAGO loaded into a channel, as [`explain`](crate::explain) does on the
+    /// Returns what the program copies and sets to 0 that a DMAGO loaded into a channel, as [`explain`](crate::explain) does on the
     /// device's bus: from its first instruction on, but with the registers that the channel has now. A DMAGO keeps the
     /// registers, so ask before the channel's first turn. Later the answer is the same only if the program sets each
     /// register before it uses it. A channel has a program from the DMAGO until the DMAEND or a DMAKILL.
@@ -224,28 +219,21 @@ impl Device {
     ///     device.write(offset, value, &[Region::new(0x8000_0000, &mut ram)])?;
     /// }
     /// let found = device.explain(1, 1000)?;
-    /// assert_eq!((found.src[0].addr, found.dst, found.size), (0x8000_0100, dst.to_vec(), 64));
+    /// assert_eq!((found.src[0].addr, found.dst, found.copied), (0x8000_0100, dst.to_vec(), 64));
     /// # Ok::<(), Error>(())
     /// ```
     pub fn explain(&self, channel: u8, most: u32) -> Result<Explanation, Error> {
         self.handle.explain(channel, most).and_then(explanation_of)
     }
 
-    /// Returns all that a channel's program does, as [`explain_work`](crate::explain_work).
-    ///
-    /// Fails as [`Device::explain`] does.
-    pub fn explain_work(&self, channel: u8, most: u32) -> Result<Work, Error> {
-        self.handle.explain_work(channel, most).and_then(work_of)
-    }
-
     /// Returns the lines irq\[31:0\]. A high line stays high until the guest clears its interrupt.
     pub fn irqs(&self) -> u32 {
-        self.handle.irqs()
+        self.handle.lines().0
     }
 
     /// Returns the line irq_abort, which is high until the guest kills each faulting thread.
     pub fn irq_abort(&self) -> bool {
-        self.handle.irq_abort()
+        self.handle.lines().1
     }
 
     /// Returns whether any channel runs and doesn't wait for an event that is clear, or that INTEN makes an interrupt.
@@ -263,8 +251,8 @@ impl Device {
         out
     }
 
-    /// Makes the device the one that was saved, by this version or an earlier one. Bytes that are the save of no device
-    /// of this configuration are refused, so each save of this version with a flipped bit.
+    /// Makes the device the one that was saved. Bytes that are the save of no device of this configuration are refused,
+    /// so each save with a flipped bit.
     ///
     /// Fails with `OtherDevice`; or with `BadSave`, after which the device is in its state after a reset.
     pub fn restore(&mut self, save: &[u8]) -> Result<(), Error> {

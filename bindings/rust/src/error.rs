@@ -36,7 +36,7 @@ pub enum Error {
     CookiesSpent,
     /// An instruction is due, and the step count is 2^64 - 1.
     StepsSpent,
-    /// A range to be marked is empty, or ends above the last address.
+    /// A range in which accesses are to fail is empty, or ends above the last address.
     BadRange,
     /// A checkpoint was requested while a transfer runs.
     Running {
@@ -52,7 +52,7 @@ pub enum Error {
     /// There are more than 64 regions, or one begins before the end of the one before it (also if one of them is
     /// empty), or one ends above 4294967296.
     BadRegions,
-    /// No device can have this configuration.
+    /// No device can have this configuration, or no program can begin so.
     BadConfig,
     /// A list has no segment.
     EmptyList,
@@ -154,7 +154,7 @@ impl Error {
     /// Returns its number in `dma330.h`.
     ///
     /// ```
-    /// assert_eq!(dma330::Error::NoChannel.code(), -12);
+    /// assert_eq!(dma330::Error::NoChannel.code(), -5);
     /// ```
     pub fn code(self) -> i32 {
         match self {
@@ -209,7 +209,7 @@ impl fmt::Display for Error {
             Error::BadChannels => "the number of channels is not 1 to 8",
             Error::SizeOutOfRange => "the size is not 1 to 4294963200 bytes",
             Error::BadRegions => "there are more than 64 regions, or they don't rise, overlap, or end above 4294967296",
-            Error::BadConfig => "no device can have this configuration",
+            Error::BadConfig => "no device can have this configuration, or no program can begin so",
             Error::EmptyList => "a list has no segment",
             Error::TooManySegments => "a list has more than 64 segments",
             Error::EmptySegment => "a segment has length 0",

@@ -48,9 +48,54 @@ pub struct Repeated {
     pub times: u32,
 }
 
+/// The registers with which a program begins, as far as they are known; `None` may be anything, as after another
+/// program: a device's channel keeps its registers over a DMAGO. Of the default none is known.
+#[derive(Clone, Copy, Debug, Default, PartialEq, Eq, Hash)]
+pub struct Start {
+    /// The next source address.
+    pub sar: Option<u32>,
+    /// The next destination address.
+    pub dar: Option<u32>,
+    /// The control word.
+    pub ccr: Option<u32>,
+    /// Loop counter 0.
+    pub lc0: Option<u8>,
+    /// Loop counter 1.
+    pub lc1: Option<u8>,
+}
+
+/// All registers are known: those of a channel.
+impl From<Registers> for Start {
+    fn from(registers: Registers) -> Start {
+        let Registers { sar, dar, ccr, lc0, lc1, .. } = registers;
+        Start { sar: Some(sar), dar: Some(dar), ccr: Some(ccr), lc0: Some(lc0), lc1: Some(lc1) }
+    }
+}
+
+impl Start {
+    // Returns the struct of dma330.h.
+    fn raw(self) -> sys::RawStart {
+        let known = [
+            (self.sar.is_some(), sys::KNOWN_SAR),
+            (self.dar.is_some(), sys::KNOWN_DAR),
+            (self.ccr.is_some(), sys::KNOWN_CCR),
+            (self.lc0.is_some(), sys::KNOWN_LC0),
+            (self.lc1.is_some(), sys::KNOWN_LC1),
+        ];
+        sys::RawStart {
+            known: known.iter().filter(|(is_known, _)| *is_known).map(|(_, bit)| bit).sum(),
+            sar: self.sar.unwrap_or_default(),
+            dar: self.dar.unwrap_or_default(),
+            ccr: self.ccr.unwrap_or_default(),
+            lc0: self.lc0.unwrap_or_default(),
+            lc1: self.lc1.unwrap_or_default(),
+        }
+    }
+}
+
 /// What an instruction with an event does.
 #[derive(Clone, Copy, Debug, PartialEq, Eq, Hash)]
-pub enum HappeningKind {
+pub enum EventKind {
     /// It waits for the event: DMAWFE.
     Waits,
     /// It signals the event: DMASEV.
@@ -59,36 +104,9 @@ pub enum HappeningKind {
 
 /// A DMAWFE or a DMASEV that a program executes.
 #[derive(Clone, Copy, Debug, PartialEq, Eq, Hash)]
-pub struct Happening {
+pub struct Event {
     /// Which of the two it is.
-    pub kind: HappeningKind,
-    /// The event.
-    pub event: u8,
-    /// The number of bytes that the program has stored before it.
-    pub stored: u64,
-}
-
-/// What a program copies: byte number p that it reads is byte number p that it stores. No byte is stored twice, or
-/// where one is read.
-#[derive(Clone, Debug, PartialEq, Eq, Hash)]
-pub struct Explanation {
-    /// What it reads, in its order.
-    pub src: Vec<Repeated>,
-    /// Where it stores, in its order.
-    pub dst: Vec<Segment>,
-    /// The events that it waits for and signals, in its order.
-    pub happenings: Vec<Happening>,
-    /// The number of bytes.
-    pub size: u64,
-    /// The number of instructions that it executes, DMAEND included.
-    pub steps: u32,
-}
-
-/// A DMAWFE or a DMASEV that a program executes, among all that it does.
-#[derive(Clone, Copy, Debug, PartialEq, Eq, Hash)]
-pub struct Moment {
-    /// Which of the two it is.
-    pub kind: HappeningKind,
+    pub kind: EventKind,
     /// The event.
     pub event: u8,
     /// The number of bytes that the program has copied before it.
@@ -97,10 +115,10 @@ pub struct Moment {
     pub cleared: u64,
 }
 
-/// What a program copies, as an [`Explanation`] says, and what it sets to 0: other bytes, each once, and none that it
-/// reads.
+/// What a program copies and sets to 0: byte number p that it reads is byte number p that it stores. No byte is stored
+/// twice, set to 0 twice, or both, and none where one is read.
 #[derive(Clone, Debug, PartialEq, Eq, Hash)]
-pub struct Work {
+pub struct Explanation {
     /// What it reads, in its order.
     pub src: Vec<Repeated>,
     /// Where it stores that, in its order.
@@ -108,7 +126,7 @@ pub struct Work {
     /// What it sets to 0, in its order.
     pub zeros: Vec<Segment>,
     /// The events that it waits for and signals, in its order.
-    pub moments: Vec<Moment>,
+    pub events: Vec<Event>,
     /// The number of bytes that it copies.
     pub copied: u64,
     /// The number of bytes that it sets to 0.
@@ -149,19 +167,17 @@ pub enum Cause {
     StoresSource,
     /// No DMAEND is among the first `most` instructions.
     NoEnd,
-    /// By DMASTZ it also sets bytes to 0: [`explain_work`] explains it. The offset is 0. Not for [`Bus::Channel`].
-    StoresZeros,
-    /// For [`explain`], the instruction uses SAR, which the program hasn't set.
+    /// The instruction uses SAR, which isn't known, and which the program hasn't set.
     UnsetSar,
-    /// For [`explain`], the instruction uses DAR, which the program hasn't set. While bytes are in the buffer, a DMAMOV
-    /// DAR, DMAADDH or DMAADNH uses the old DAR, too: a chip, and a device, compares it with the new one, to find
+    /// The instruction uses DAR, which isn't known, and which the program hasn't set. While bytes are in the buffer, a
+    /// DMAMOV DAR, DMAADDH or DMAADNH uses the old DAR, too: a chip, and a device, compares it with the new one, to find
     /// whether it drops the bytes. Not for [`Bus::Channel`].
     UnsetDar,
-    /// For [`explain`], the instruction uses CCR, which the program hasn't set.
+    /// The instruction uses CCR, which isn't known, and which the program hasn't set.
     UnsetCcr,
-    /// For [`explain`], a DMALPEND uses LC0, which the program hasn't set.
+    /// A DMALPEND uses LC0, which isn't known, and which the program hasn't set.
     UnsetLc0,
-    /// For [`explain`], a DMALPEND uses LC1, which the program hasn't set.
+    /// A DMALPEND uses LC1, which isn't known, and which the program hasn't set.
     UnsetLc1,
 }
 
@@ -181,7 +197,6 @@ impl fmt::Display for Cause {
             Cause::StoresTwice => "a byte was stored twice",
             Cause::StoresSource => "a byte was stored at an address that was read",
             Cause::NoEnd => "no DMAEND is among the instructions that were allowed",
-            Cause::StoresZeros => "it also sets bytes to 0",
             Cause::UnsetSar => "the instruction uses SAR, which the program hasn't set",
             Cause::UnsetDar => "the instruction uses DAR, which the program hasn't set",
             Cause::UnsetCcr => "the instruction uses CCR, which the program hasn't set",
@@ -191,97 +206,68 @@ impl fmt::Display for Cause {
     }
 }
 
-fn happening_of(raw: &sys::RawHappening) -> Happening {
-    let kind = named(&sys::HAPPENING_KINDS, raw.kind);
-    Happening { kind, event: small(raw.event), stored: raw.stored }
+fn event_of(raw: &sys::RawEvent) -> Event {
+    let kind = named(&sys::EVENT_KINDS, raw.kind);
+    Event { kind, event: small(raw.event), copied: raw.copied, cleared: raw.cleared }
 }
 
-fn moment_of(raw: &sys::RawMoment) -> Moment {
-    let kind = named(&sys::HAPPENING_KINDS, raw.kind);
-    Moment { kind, event: small(raw.event), copied: raw.copied, cleared: raw.cleared }
+pub(crate) fn explanation_of(raw: calls::RawExplained) -> Result<Explanation, Error> {
+    let mut events = Vec::new();
+    events.try_reserve_exact(raw.events.len()).map_err(|_| Error::NoMemory)?;
+    events.extend(raw.events.iter().map(event_of));
+    let sys::RawExplanation { copied, cleared, steps, .. } = raw.explanation;
+    Ok(Explanation { src: raw.src, dst: raw.dst, zeros: raw.zeros, events, copied, cleared, steps })
 }
 
-fn each<T, U>(list: &[T], of: fn(&T) -> U) -> Result<Vec<U>, Error> {
-    let mut out = Vec::new();
-    out.try_reserve_exact(list.len()).map_err(|_| Error::NoMemory)?;
-    out.extend(list.iter().map(of));
-    Ok(out)
-}
-
-pub(crate) fn explanation_of(raw: calls::RawExplained<sys::RawExplanation>) -> Result<Explanation, Error> {
-    let happenings = each(&raw.happenings, happening_of)?;
-    let (size, steps) = (raw.answer.size, raw.answer.steps);
-    Ok(Explanation { src: raw.src, dst: raw.dst, happenings, size, steps })
-}
-
-pub(crate) fn work_of(raw: calls::RawExplained<sys::RawWork>) -> Result<Work, Error> {
-    let moments = each(&raw.happenings, moment_of)?;
-    let sys::RawWork { copied, cleared, steps, .. } = raw.answer;
-    Ok(Work { src: raw.src, dst: raw.dst, zeros: raw.zeros, moments, copied, cleared, steps })
-}
-
-/// Returns what a program copies on a bus, by one run without memory for at most `most` instructions, whatever the
-/// channel's registers are when it begins. A device's channel keeps its registers over a DMAGO, so another program may
-/// have left anything there: a register isn't known until the program sets it. [`explain_work`] explains a program that
-/// begins with given registers.
+/// Returns what a program copies and sets to 0 on a bus, by one run without memory for at most `most` instructions. It
+/// begins with the registers that are known, and what is found holds whatever the others are: an instruction that uses
+/// one of them before the program sets it is refused.
 ///
 /// The order and the addresses of a program's instructions are the same in each memory. So a channel that runs the
-/// program copies these bytes, if the regions have all these addresses, none that it writes is read-only, no mark lies
-/// there, and nobody else writes there meanwhile.
+/// program does exactly this, if the regions have all these addresses, none that it writes is read-only, no error is
+/// injected there, and nobody else writes there meanwhile.
 ///
-/// Fails with `ProgramTooLong`; with `Unexplained` if the program is no copy in at most `most` instructions, or uses a
-/// register before it sets it; or with `NoMemory`.
+/// Fails with `BadConfig` if no channel on the bus has a `ccr` that is known; with `ProgramTooLong`; with `Unexplained`
+/// if the program does nothing of this kind in at most `most` instructions, or uses a register that isn't known; or with
+/// `NoMemory`.
 ///
 /// ```
-/// use dma330::{assemble, explain, Bus, Cause, Error, Happening, HappeningKind, Repeated, Segment};
+/// use dma330::{assemble, explain, Bus, Cause, Error, Event, EventKind, Repeated, Segment, Start};
 /// let text = "DMAMOV SAR 0x00001000\nDMAMOV DAR 0x00002000\nDMAMOV CCR 0x00014004\n\
 ///     DMALP 0 3\nDMALD\nDMAST\nDMALPEND 0 2\nDMASEV 7\nDMAEND\n";
 /// let program = assemble(text)?;
-/// let found = explain(&program, Bus::Channel, 1000)?;
+/// let found = explain(&program, Bus::Channel, Start::default(), 1000)?;
 /// assert_eq!(found.src, [Repeated { addr: 0x1000, len: 4, times: 3 }]);
 /// assert_eq!(found.dst, [Segment::new(0x2000, 12)]);
-/// assert_eq!(found.happenings, [Happening { kind: HappeningKind::Signals, event: 7, stored: 12 }]);
-/// assert_eq!((found.size, found.steps), (12, 15));
+/// assert_eq!(found.events, [Event { kind: EventKind::Signals, event: 7, copied: 12, cleared: 0 }]);
+/// assert_eq!((found.copied, found.steps), (12, 15));
 ///
-/// let error = explain(&program, Bus::Channel, 14).unwrap_err();
+/// let error = explain(&program, Bus::Channel, Start::default(), 14).unwrap_err();
 /// assert_eq!(error, Error::Unexplained { cause: Cause::NoEnd, pc: 26, steps: 14 });
 /// # Ok::<(), Error>(())
 /// ```
-pub fn explain(program: &[u8], bus: Bus, most: u32) -> Result<Explanation, Error> {
-    calls::explain(program, bus.number(), most).and_then(explanation_of)
-}
-
-/// Returns all that a program does: what it copies, as [`explain`] does, and what its DMASTZ set to 0. It begins with
-/// the `sar`, `dar`, `ccr`, `lc0` and `lc1` of these registers: a device's channel keeps its registers over a DMAGO, so
-/// a driver's program may leave out a DMAMOV.
 ///
-/// Fails as [`explain`] does, but never with `StoresZeros` or `UnsetSar` to `UnsetLc1`, and with `BadConfig` if no channel on the bus has this
-/// `ccr`.
+/// A device's channel keeps its registers over a DMAGO, so a driver's program may leave out a DMAMOV:
 ///
 /// ```
-/// use dma330::{explain, explain_work, Bus, BusWidth, Cause, Error, HappeningKind, Moment, Registers, Repeated, Segment};
+/// use dma330::{explain, Bus, BusWidth, Cause, Error, Event, EventKind, Registers, Repeated, Segment, Start};
 /// let bus = Bus::Device(BusWidth::Bits32);
-/// let start = Registers { sar: 0x1000, dar: 0x2000, ccr: 0x0001_4005, ..Registers::default() };
+/// let registers = Registers { sar: 0x1000, dar: 0x2000, ccr: 0x0001_4005, ..Registers::default() };
 /// let program = [0x04, 0x08, 0x0C, 0x34, 7 << 3, 0x00]; // DMALD, DMAST, DMASTZ, DMASEV 7, DMAEND
-/// let found = explain_work(&program, bus, &start, 1000)?;
+/// let found = explain(&program, bus, registers.into(), 1000)?;
 /// assert_eq!(found.src, [Repeated { addr: 0x1000, len: 4, times: 1 }]);
 /// assert_eq!(found.dst, [Segment::new(0x2000, 4)]);
 /// assert_eq!(found.zeros, [Segment::new(0x2004, 4)]);
-/// assert_eq!(found.moments, [Moment { kind: HappeningKind::Signals, event: 7, copied: 4, cleared: 4 }]);
+/// assert_eq!(found.events, [Event { kind: EventKind::Signals, event: 7, copied: 4, cleared: 4 }]);
 /// assert_eq!((found.copied, found.cleared, found.steps), (4, 4, 5));
 ///
-/// // DMAMOV DAR, DMAMOV CCR, DMASTZ, DMAEND
-/// let zeros = [0xBC, 2, 0, 0x20, 0, 0, 0xBC, 1, 0x05, 0x40, 0x01, 0x00, 0x0C, 0x00];
-/// let error = explain(&zeros, bus, 1000).unwrap_err();
-/// assert_eq!(error, Error::Unexplained { cause: Cause::StoresZeros, pc: 0, steps: 0 });
-/// let error = explain(&program, bus, 1000).unwrap_err();
-/// assert_eq!(error, Error::Unexplained { cause: Cause::UnsetSar, pc: 0, steps: 0 });
+/// let without_dar = Start { dar: None, ..registers.into() };
+/// let error = explain(&program, bus, without_dar, 1000).unwrap_err();
+/// assert_eq!(error, Error::Unexplained { cause: Cause::UnsetDar, pc: 1, steps: 1 });
 /// # Ok::<(), Error>(())
 /// ```
-pub fn explain_work(program: &[u8], bus: Bus, start: &Registers, most: u32) -> Result<Work, Error> {
-    let Registers { sar, dar, ccr, lc0, lc1, .. } = *start;
-    let start = sys::RawRegisters { sar, dar, ccr, lc0, lc1, ..Default::default() };
-    calls::explain_work(program, bus.number(), &start, most).and_then(work_of)
+pub fn explain(program: &[u8], bus: Bus, start: Start, most: u32) -> Result<Explanation, Error> {
+    calls::explain(program, bus.number(), &start.raw(), most).and_then(explanation_of)
 }
 
 // Returns the program that a call writes.
@@ -298,11 +284,11 @@ fn planned(call: impl Fn(&mut [u8]) -> Result<usize, Error>) -> Result<Vec<u8>, 
 /// Fails as [`Channel::load_copy`](crate::Channel::load_copy) does.
 ///
 /// ```
-/// use dma330::{explain, plan, Bus, BusWidth, Error, Events, Repeated, Segment};
+/// use dma330::{explain, plan, Bus, BusWidth, Error, Events, Repeated, Segment, Start};
 /// let bus = Bus::Device(BusWidth::Bits32);
 /// let (src, dst) = ([Segment::new(0x1000, 300)], [Segment::new(0x2000, 100), Segment::new(0x3000, 200)]);
 /// let program = plan(&src, &dst, Events::default(), bus)?;
-/// let found = explain(&program, bus, 1000)?;
+/// let found = explain(&program, bus, Start::default(), 1000)?;
 /// assert_eq!(found.src, [Repeated { addr: 0x1000, len: 300, times: 1 }]);
 /// assert_eq!(found.dst, dst);
 /// assert_eq!(plan(&src, &src, Events::default(), bus), Err(Error::SourceMeetsDestination));
@@ -318,9 +304,10 @@ pub fn plan(src: &[Segment], dst: &[Segment], events: Events, bus: Bus) -> Resul
 /// Fails as [`plan`] does, but never with `TotalsDiffer`.
 ///
 /// ```
-/// use dma330::{explain, plan_fill, Bus, Events, Repeated, Segment};
+/// use dma330::{explain, plan_fill, Bus, Events, Repeated, Segment, Start};
 /// let program = plan_fill(0x1000, &[Segment::new(0x2000, 300)], Events::default(), Bus::Channel)?;
-/// assert_eq!(explain(&program, Bus::Channel, 1000)?.src, [Repeated { addr: 0x1000, len: 1, times: 300 }]);
+/// let found = explain(&program, Bus::Channel, Start::default(), 1000)?;
+/// assert_eq!(found.src, [Repeated { addr: 0x1000, len: 1, times: 300 }]);
 /// # Ok::<(), dma330::Error>(())
 /// ```
 pub fn plan_fill(src: u32, dst: &[Segment], events: Events, bus: Bus) -> Result<Vec<u8>, Error> {

@@ -10,11 +10,11 @@ mod explain;
 mod sys;
 
 pub use calls::Region;
-pub use channel::{Channel, ChannelSteps, ChannelTurn, Registers};
+pub use channel::{Channel, ChannelStep, ChannelSteps, Registers};
 pub use device::{BusWidth, Device, DeviceConfig, DeviceRows, DeviceTurn, Revision};
 pub use error::{AssemblyFault, DisassemblyFault, Error};
-pub use explain::{explain, explain_work, plan, plan_fill};
-pub use explain::{Bus, Cause, Explanation, Happening, HappeningKind, Moment, Repeated, Work};
+pub use explain::{explain, plan, plan_fill};
+pub use explain::{Bus, Cause, Event, EventKind, Explanation, Repeated, Start};
 
 use std::fmt;
 
@@ -50,9 +50,9 @@ pub struct Events {
 pub enum TransferResult {
     /// All its bytes are stored.
     NoError,
-    /// A burst met a mark of reading.
+    /// A load met an injected error.
     ReadFailed,
-    /// A burst met a mark of writing.
+    /// A store met an injected error.
     WriteFailed,
     /// It was terminated.
     Aborted,
@@ -69,7 +69,7 @@ pub struct Outcome {
 
 /// What one step of a channel did.
 #[derive(Clone, Copy, Debug, PartialEq, Eq, Hash)]
-pub enum Turn {
+pub enum Step {
     /// The channel's next transfer began to run.
     Started {
         /// Its cookie.
@@ -110,7 +110,7 @@ pub struct Steps {
     /// The number of steps taken, the last one included, whatever it did.
     pub taken: u32,
     /// What the last one did; `None` if no step was requested.
-    pub last: Option<Turn>,
+    pub last: Option<Step>,
 }
 
 /// The state of a cookie. One that isn't issued yet is in progress; one that failed or was aborted is complete.
@@ -133,13 +133,13 @@ pub struct Running {
     pub stored: u32,
 }
 
-/// Which bursts fail in a marked range.
+/// The accesses to a range that fail.
 #[derive(Clone, Copy, Debug, PartialEq, Eq, Hash)]
-pub enum MarkKind {
-    /// Those that read the range.
-    Reading,
+pub enum Access {
+    /// Those that read it.
+    Reads,
     /// Those that write it.
-    Writing,
+    Writes,
 }
 
 /// The manual's faults of a channel.
@@ -161,10 +161,10 @@ pub enum RunEnd {
     /// It executed DMAEND.
     Ended {
         /// The number of executed instructions, DMAEND included.
-        turns: u32,
+        steps: u32,
     },
     /// It executed as many instructions as the limit, and none was DMAEND.
-    OutOfTurns,
+    OutOfSteps,
     /// It waits for an event whose flag is clear.
     Waiting {
         /// The event.
@@ -212,18 +212,18 @@ fn outcome_of(result: u32, residue: u32) -> Outcome {
     Outcome { result: named(&sys::RESULT_CODES, result), residue }
 }
 
-fn turn_of(report: &sys::RawReport) -> Option<Turn> {
+fn step_of(report: &sys::RawReport) -> Option<Step> {
     let cookie = report.cookie;
-    Some(match report.turn {
+    Some(match report.last {
         sys::NO_STEP => return None,
-        sys::STARTED => Turn::Started { cookie },
-        sys::MOVED => Turn::Moved,
-        sys::NOTHING => Turn::Nothing,
-        sys::HELD => Turn::Held { channel: small(report.channel), cookie },
-        sys::WAITING => Turn::Waiting { event: small(report.event) },
-        sys::PAUSED => Turn::Paused,
-        sys::HALTED => Turn::Halted,
-        sys::FINISHED => Turn::Finished { cookie, outcome: outcome_of(report.result, report.residue) },
+        sys::STARTED => Step::Started { cookie },
+        sys::MOVED => Step::Moved,
+        sys::NOTHING => Step::Nothing,
+        sys::HELD => Step::Held { channel: small(report.channel), cookie },
+        sys::WAITING => Step::Waiting { event: small(report.event) },
+        sys::PAUSED => Step::Paused,
+        sys::HALTED => Step::Halted,
+        sys::FINISHED => Step::Finished { cookie, outcome: outcome_of(report.result, report.residue) },
         number => unnamed(number),
     })
 }
@@ -350,20 +350,20 @@ impl Controller {
     /// returns the steps before it, and the next call tries that step again and fails if the cause still applies.
     ///
     /// ```
-    /// use dma330::{Controller, Events, Outcome, Segment, Steps, TransferResult, Turn};
+    /// use dma330::{Controller, Events, Outcome, Segment, Step, Steps, TransferResult};
     /// let mut controller = Controller::open(0x3000, 1)?;
     /// let cookie = controller.submit(0, &[Segment::new(0x1000, 4)], &[Segment::new(0x2000, 4)], Events::default())?;
-    /// assert_eq!(controller.step(0, 9)?, Steps { taken: 1, last: Some(Turn::Nothing) });
+    /// assert_eq!(controller.step(0, 9)?, Steps { taken: 1, last: Some(Step::Nothing) });
     /// controller.issue(0)?;
     /// // a start, and some of the eight instructions of its program
-    /// assert_eq!(controller.step(0, 3)?, Steps { taken: 3, last: Some(Turn::Moved) });
+    /// assert_eq!(controller.step(0, 3)?, Steps { taken: 3, last: Some(Step::Moved) });
     /// let outcome = Outcome { result: TransferResult::NoError, residue: 0 };
-    /// assert_eq!(controller.step(0, 100)?, Steps { taken: 6, last: Some(Turn::Finished { cookie, outcome }) });
+    /// assert_eq!(controller.step(0, 100)?, Steps { taken: 6, last: Some(Step::Finished { cookie, outcome }) });
     /// # Ok::<(), dma330::Error>(())
     /// ```
     pub fn step(&mut self, channel: u8, most: u32) -> Result<Steps, Error> {
         let report = self.handle.step(channel, most)?;
-        Ok(Steps { taken: report.taken, last: turn_of(&report) })
+        Ok(Steps { taken: report.taken, last: step_of(&report) })
     }
 
     /// Returns the state of a cookie.
@@ -425,30 +425,31 @@ impl Controller {
         self.handle.running_count()
     }
 
-    /// Marks a range, inside the memory or not, in which bursts of this kind fail from then on.
+    /// Injects an error: bursts that read a range, or write it, by `access`, fail from then on. The range may lie inside
+    /// the memory or not.
     ///
     /// Fails with `BadRange` or `NoMemory`.
     ///
     /// ```
-    /// use dma330::{Controller, Events, MarkKind, Segment, TransferResult, Turn};
+    /// use dma330::{Access, Controller, Events, Segment, Step, TransferResult};
     /// let mut controller = Controller::open(0x400, 1)?;
-    /// controller.mark(MarkKind::Writing, Segment::new(0x202, 1))?;
+    /// controller.inject_error(Access::Writes, Segment::new(0x202, 1))?;
     /// controller.submit(0, &[Segment::new(0x100, 4)], &[Segment::new(0x200, 4)], Events::default())?;
     /// controller.issue(0)?;
-    /// let Some(Turn::Finished { outcome, .. }) = controller.step(0, 100)?.last else { panic!() };
+    /// let Some(Step::Finished { outcome, .. }) = controller.step(0, 100)?.last else { panic!() };
     /// assert_eq!((outcome.result, outcome.residue), (TransferResult::WriteFailed, 4));
-    /// assert_eq!(controller.step(0, 1)?.last, Some(Turn::Halted));
+    /// assert_eq!(controller.step(0, 1)?.last, Some(Step::Halted));
     /// # Ok::<(), dma330::Error>(())
     /// ```
-    pub fn mark(&mut self, kind: MarkKind, range: Segment) -> Result<(), Error> {
-        self.handle.mark(number_of(&sys::MARK_KINDS, &kind), range)
+    pub fn inject_error(&mut self, access: Access, range: Segment) -> Result<(), Error> {
+        self.handle.inject_error(number_of(&sys::ACCESSES, &access), range)
     }
 
-    /// Removes all marks.
+    /// Removes all injected errors.
     ///
     /// Fails with `NoMemory`.
-    pub fn unmark(&mut self) -> Result<(), Error> {
-        self.handle.unmark()
+    pub fn uninject_errors(&mut self) -> Result<(), Error> {
+        self.handle.uninject_errors()
     }
 
     /// Sets the flag of an event. One transfer that waits for the event clears the flag and goes on.
@@ -475,7 +476,7 @@ impl fmt::Debug for Controller {
 /// Returns the version of the library.
 ///
 /// ```
-/// assert_eq!(dma330::version(), "dilkwafam 1.6");
+/// assert_eq!(dma330::version(), "dilkwafam 1.0");
 /// ```
 pub fn version() -> String {
     let mut out = vec![0; 64];
@@ -487,8 +488,7 @@ pub fn version() -> String {
     }
 }
 
-/// Runs a program's bytes alone over a memory, without marks and with all flags clear, for at most `limit`
-/// instructions.
+/// Runs a program's bytes alone over a memory, with all flags clear, for at most `limit` instructions.
 ///
 /// Fails with the first that applies of `SizeOutOfRange`, for the memory's length, and `ProgramTooLong`; or with
 /// `NoMemory`. A call that fails doesn't change the memory.
@@ -496,7 +496,7 @@ pub fn version() -> String {
 /// ```
 /// use dma330::{assemble, run_program, Fault, RunEnd};
 /// let program = assemble("DMASEV 3\nDMAWFE 3\nDMAEND\n")?;
-/// assert_eq!(run_program(&program, &mut [0; 16], 100), Ok(RunEnd::Ended { turns: 3 }));
+/// assert_eq!(run_program(&program, &mut [0; 16], 100), Ok(RunEnd::Ended { steps: 3 }));
 /// let fault = Fault::StDataUnavailable;
 /// assert_eq!(run_program(&assemble("DMAST")?, &mut [0; 16], 100), Ok(RunEnd::Fault { fault, pc: 0 }));
 /// # Ok::<(), dma330::Error>(())
@@ -504,8 +504,8 @@ pub fn version() -> String {
 pub fn run_program(program: &[u8], memory: &mut [u8], limit: u32) -> Result<RunEnd, Error> {
     let end = calls::run_program(program, memory, limit)?;
     Ok(match end.end {
-        sys::END_ENDED => RunEnd::Ended { turns: end.turns },
-        sys::END_OUT_OF_TURNS => RunEnd::OutOfTurns,
+        sys::END_ENDED => RunEnd::Ended { steps: end.steps },
+        sys::END_OUT_OF_STEPS => RunEnd::OutOfSteps,
         sys::END_WAITING => RunEnd::Waiting { event: small(end.event) },
         sys::END_FAULT => RunEnd::Fault { fault: named(&sys::FAULTS, end.fault), pc: end.pc },
         number => unnamed(number),

@@ -1,6 +1,6 @@
 //! What dma330.h declares. `tools/declarations` writes this file: change the header, not the file.
 
-use crate::{AssemblyFault, Cause, DisassemblyFault, Error, Fault, HappeningKind, MarkKind};
+use crate::{Access, AssemblyFault, Cause, DisassemblyFault, Error, EventKind, Fault};
 use crate::{Region, Repeated, Segment, Status, TransferResult};
 use std::ffi::c_void;
 use std::mem::size_of;
@@ -9,67 +9,69 @@ pub const NO_EVENT: i32 = -1;
 pub const MAX_PROGRAM: usize = 8192;
 pub const MAX_DEVICE_SAVE: usize = 68204;
 pub const OK: i32 = 0;
-pub const NO_RESULT: i32 = -6;
-pub const NOT_RUNNING: i32 = -7;
-pub const BUFFER_TOO_SMALL: i32 = -8;
-pub const BUSY: i32 = -11;
-pub const RUNNING: i32 = -16;
-pub const UNEXPLAINED: i32 = -70;
+pub const NO_RESULT: i32 = -27;
+pub const NOT_RUNNING: i32 = -26;
+pub const BUFFER_TOO_SMALL: i32 = -4;
+pub const BUSY: i32 = -24;
+pub const RUNNING: i32 = -25;
+pub const UNEXPLAINED: i32 = -38;
 pub const NO_STEP: u32 = 0;
-pub const STARTED: u32 = 1;
-pub const MOVED: u32 = 2;
-pub const NOTHING: u32 = 3;
-pub const HELD: u32 = 4;
-pub const WAITING: u32 = 5;
-pub const PAUSED: u32 = 6;
-pub const HALTED: u32 = 7;
-pub const FINISHED: u32 = 8;
-pub const CHANNEL_NO_STEP: u32 = 0;
-pub const CHANNEL_MOVED: u32 = 1;
-pub const CHANNEL_WAITING: u32 = 2;
-pub const CHANNEL_ENDED: u32 = 3;
-pub const CHANNEL_FAULT: u32 = 4;
-pub const CHANNEL_SIGNALLED: u32 = 5;
+pub const MOVED: u32 = 1;
+pub const WAITING: u32 = 2;
+pub const ENDED: u32 = 3;
+pub const FAULT: u32 = 4;
+pub const SIGNALLED: u32 = 5;
+pub const STARTED: u32 = 6;
+pub const FINISHED: u32 = 7;
+pub const NOTHING: u32 = 8;
+pub const HELD: u32 = 9;
+pub const PAUSED: u32 = 10;
+pub const HALTED: u32 = 11;
+pub const END_OUT_OF_STEPS: u32 = 0;
 pub const END_ENDED: u32 = 1;
-pub const END_OUT_OF_TURNS: u32 = 2;
-pub const END_WAITING: u32 = 3;
-pub const END_FAULT: u32 = 4;
+pub const END_WAITING: u32 = 2;
+pub const END_FAULT: u32 = 3;
+pub const KNOWN_SAR: u32 = 1;
+pub const KNOWN_DAR: u32 = 2;
+pub const KNOWN_CCR: u32 = 4;
+pub const KNOWN_LC0: u32 = 8;
+pub const KNOWN_LC1: u32 = 16;
 
 pub const CODES: [(i32, Error); 23] = [
     (-3, Error::NoMemory),
-    (-4, Error::BadEvent),
-    (-9, Error::NoProgram),
-    (-10, Error::OutOfMemoryRange),
-    (-12, Error::NoChannel),
-    (-13, Error::CookiesSpent),
-    (-14, Error::StepsSpent),
-    (-15, Error::BadRange),
-    (-20, Error::BadChannels),
-    (-21, Error::SizeOutOfRange),
-    (-22, Error::BadRegions),
-    (-23, Error::BadConfig),
-    (-30, Error::EmptyList),
-    (-31, Error::TooManySegments),
-    (-32, Error::EmptySegment),
-    (-33, Error::SegmentWraps),
-    (-34, Error::TotalsDiffer),
-    (-35, Error::TooLong),
-    (-36, Error::DestinationsMeet),
-    (-37, Error::SourceMeetsDestination),
-    (-40, Error::ProgramTooLong),
-    (-42, Error::BadSave),
-    (-43, Error::OtherDevice),
+    (-5, Error::NoChannel),
+    (-6, Error::NoProgram),
+    (-7, Error::ProgramTooLong),
+    (-8, Error::BadChannels),
+    (-9, Error::SizeOutOfRange),
+    (-10, Error::BadRegions),
+    (-11, Error::BadConfig),
+    (-12, Error::BadEvent),
+    (-14, Error::BadRange),
+    (-15, Error::OutOfMemoryRange),
+    (-16, Error::EmptyList),
+    (-17, Error::TooManySegments),
+    (-18, Error::EmptySegment),
+    (-19, Error::SegmentWraps),
+    (-20, Error::TotalsDiffer),
+    (-21, Error::TooLong),
+    (-22, Error::DestinationsMeet),
+    (-23, Error::SourceMeetsDestination),
+    (-28, Error::CookiesSpent),
+    (-29, Error::StepsSpent),
+    (-30, Error::BadSave),
+    (-31, Error::OtherDevice),
 ];
 pub const LINE_CODES: [(i32, AssemblyFault); 4] = [
-    (-50, AssemblyFault::BadMnemonic),
-    (-51, AssemblyFault::BadOperand),
-    (-52, AssemblyFault::NumberOutOfRange),
-    (-40, AssemblyFault::ProgramTooLong),
+    (-32, AssemblyFault::BadMnemonic),
+    (-33, AssemblyFault::BadOperand),
+    (-34, AssemblyFault::NumberOutOfRange),
+    (-7, AssemblyFault::ProgramTooLong),
 ];
 pub const OFFSET_CODES: [(i32, DisassemblyFault); 3] = [
-    (-60, DisassemblyFault::CutInstruction),
-    (-61, DisassemblyFault::UnknownInstruction),
-    (-62, DisassemblyFault::BadField),
+    (-35, DisassemblyFault::CutInstruction),
+    (-36, DisassemblyFault::UnknownInstruction),
+    (-37, DisassemblyFault::BadField),
 ];
 pub const STATES: [(i32, Status); 3] = [(0, Status::Unknown), (1, Status::InProgress), (2, Status::Complete)];
 pub const RESULT_CODES: [(u32, TransferResult); 4] = [
@@ -78,7 +80,7 @@ pub const RESULT_CODES: [(u32, TransferResult); 4] = [
     (2, TransferResult::WriteFailed),
     (3, TransferResult::Aborted),
 ];
-pub const MARK_KINDS: [(u32, MarkKind); 2] = [(0, MarkKind::Reading), (1, MarkKind::Writing)];
+pub const ACCESSES: [(u32, Access); 2] = [(0, Access::Reads), (1, Access::Writes)];
 pub const FAULTS: [(u32, Fault); 7] = [
     (1, Fault::UndefInstr),
     (2, Fault::OperandInvalid),
@@ -88,8 +90,8 @@ pub const FAULTS: [(u32, Fault); 7] = [
     (6, Fault::DataWriteErr),
     (7, Fault::DataReadErr),
 ];
-pub const HAPPENING_KINDS: [(u32, HappeningKind); 2] = [(0, HappeningKind::Waits), (1, HappeningKind::Signals)];
-pub const CAUSES: [(u32, Cause); 19] = [
+pub const EVENT_KINDS: [(u32, EventKind); 2] = [(0, EventKind::Waits), (1, EventKind::Signals)];
+pub const CAUSES: [(u32, Cause); 18] = [
     (1, Cause::UndefInstr),
     (2, Cause::OperandInvalid),
     (3, Cause::MfifoErr),
@@ -103,12 +105,11 @@ pub const CAUSES: [(u32, Cause); 19] = [
     (13, Cause::StoresTwice),
     (14, Cause::StoresSource),
     (15, Cause::NoEnd),
-    (16, Cause::StoresZeros),
-    (17, Cause::UnsetSar),
-    (18, Cause::UnsetDar),
-    (19, Cause::UnsetCcr),
-    (20, Cause::UnsetLc0),
-    (21, Cause::UnsetLc1),
+    (16, Cause::UnsetSar),
+    (17, Cause::UnsetDar),
+    (18, Cause::UnsetCcr),
+    (19, Cause::UnsetLc0),
+    (20, Cause::UnsetLc1),
 ];
 
 #[repr(C)]
@@ -143,7 +144,7 @@ pub struct RawRun {
 #[derive(Clone, Copy, Default)]
 pub struct RawReport {
     pub taken: u32,
-    pub turn: u32,
+    pub last: u32,
     pub channel: u32,
     pub cookie: u32,
     pub event: u32,
@@ -162,7 +163,7 @@ pub struct RawChannel {
 #[derive(Clone, Copy, Default)]
 pub struct RawChannelReport {
     pub taken: u32,
-    pub turn: u32,
+    pub last: u32,
     pub event: u32,
     pub fault: u32,
     pub pc: u32,
@@ -205,6 +206,7 @@ pub struct RawDeviceConfig {
 #[derive(Clone, Copy, Default)]
 pub struct RawDeviceTurn {
     pub written: Segment,
+    pub taken: u64,
     pub lines_changed: u32,
     pub can_step: u32,
 }
@@ -212,20 +214,17 @@ pub struct RawDeviceTurn {
 #[repr(C)]
 #[derive(Clone, Copy, Default)]
 pub struct RawDeviceRows {
-    pub written: Segment,
+    pub turn: RawDeviceTurn,
     pub pitch: u32,
     pub count: u32,
     pub steps: u32,
-    pub lines_changed: u32,
-    pub can_step: u32,
-    pub taken: u64,
 }
 
 #[repr(C)]
 #[derive(Clone, Copy, Default)]
 pub struct RawRunEnd {
     pub end: u32,
-    pub turns: u32,
+    pub steps: u32,
     pub event: u32,
     pub fault: u32,
     pub pc: u32,
@@ -233,27 +232,18 @@ pub struct RawRunEnd {
 
 #[repr(C)]
 #[derive(Clone, Copy, Default)]
-pub struct RawHappening {
-    pub kind: u32,
-    pub event: u32,
-    pub stored: u64,
+pub struct RawStart {
+    pub known: u32,
+    pub sar: u32,
+    pub dar: u32,
+    pub ccr: u32,
+    pub lc0: u8,
+    pub lc1: u8,
 }
 
 #[repr(C)]
 #[derive(Clone, Copy, Default)]
-pub struct RawExplanation {
-    pub src_len: usize,
-    pub dst_len: usize,
-    pub happenings_len: usize,
-    pub size: u64,
-    pub steps: u32,
-    pub pc: u32,
-    pub cause: u32,
-}
-
-#[repr(C)]
-#[derive(Clone, Copy, Default)]
-pub struct RawMoment {
+pub struct RawEvent {
     pub kind: u32,
     pub event: u32,
     pub copied: u64,
@@ -262,11 +252,11 @@ pub struct RawMoment {
 
 #[repr(C)]
 #[derive(Clone, Copy, Default)]
-pub struct RawWork {
+pub struct RawExplanation {
     pub src_len: usize,
     pub dst_len: usize,
     pub zeros_len: usize,
-    pub moments_len: usize,
+    pub events_len: usize,
     pub copied: u64,
     pub cleared: u64,
     pub steps: u32,
@@ -287,14 +277,13 @@ const _: () = assert!(size_of::<RawChannelReport>() == 28);
 const _: () = assert!(size_of::<RawRegisters>() == 32);
 const _: () = assert!(size_of::<RawDevice>() == 16);
 const _: () = assert!(size_of::<RawDeviceConfig>() == 24);
-const _: () = assert!(size_of::<RawDeviceTurn>() == 16);
+const _: () = assert!(size_of::<RawDeviceTurn>() == 24);
 const _: () = assert!(size_of::<RawDeviceRows>() == 40);
 const _: () = assert!(size_of::<RawRunEnd>() == 20);
 const _: () = assert!(size_of::<Repeated>() == 12);
-const _: () = assert!(size_of::<RawHappening>() == 16);
-const _: () = assert!(size_of::<RawExplanation>() == 48);
-const _: () = assert!(size_of::<RawMoment>() == 24);
-const _: () = assert!(size_of::<RawWork>() == 64);
+const _: () = assert!(size_of::<RawStart>() == 20);
+const _: () = assert!(size_of::<RawEvent>() == 24);
+const _: () = assert!(size_of::<RawExplanation>() == 64);
 
 extern "C" {
     pub fn dma330_open(controller: *mut RawController, size: u32, channels: u8) -> i32;
@@ -348,8 +337,8 @@ extern "C" {
     pub fn dma330_history_entries(controller: *mut RawController, count: *mut u64) -> i32;
     pub fn dma330_history_bytes(controller: *mut RawController, count: *mut u64) -> i32;
     pub fn dma330_running_count(controller: *mut RawController, count: *mut u32) -> i32;
-    pub fn dma330_mark(controller: *mut RawController, kind: u32, range: Segment) -> i32;
-    pub fn dma330_unmark(controller: *mut RawController) -> i32;
+    pub fn dma330_inject_error(controller: *mut RawController, access: u32, range: Segment) -> i32;
+    pub fn dma330_uninject_errors(controller: *mut RawController) -> i32;
     pub fn dma330_raise(controller: *mut RawController, event: u8) -> i32;
     pub fn dma330_checkpoint(controller: *mut RawController, conflict: *mut RawConflict) -> i32;
     pub fn dma330_channel_open(channel: *mut RawChannel) -> i32;
@@ -388,8 +377,8 @@ extern "C" {
     ) -> i32;
     pub fn dma330_channel_stop(channel: *mut RawChannel) -> i32;
     pub fn dma330_channel_registers(channel: *mut RawChannel, registers: *mut RawRegisters) -> i32;
-    pub fn dma330_channel_mark(channel: *mut RawChannel, kind: u32, range: Segment) -> i32;
-    pub fn dma330_channel_unmark(channel: *mut RawChannel) -> i32;
+    pub fn dma330_channel_inject_error(channel: *mut RawChannel, access: u32, range: Segment) -> i32;
+    pub fn dma330_channel_uninject_errors(channel: *mut RawChannel) -> i32;
     pub fn dma330_channel_save(channel: *mut RawChannel, out: *mut u8, room: usize, len: *mut usize) -> i32;
     pub fn dma330_channel_restore(channel: *mut RawChannel, save: *const u8, len: usize) -> i32;
     pub fn dma330_device_open(device: *mut RawDevice, config: *const RawDeviceConfig) -> i32;
@@ -427,27 +416,14 @@ extern "C" {
         src_room: usize,
         dst: *mut Segment,
         dst_room: usize,
-        happenings: *mut RawHappening,
-        happenings_room: usize,
-        explanation: *mut RawExplanation,
-    ) -> i32;
-    pub fn dma330_device_explain_work(
-        device: *mut RawDevice,
-        channel: u8,
-        most: u32,
-        src: *mut Repeated,
-        src_room: usize,
-        dst: *mut Segment,
-        dst_room: usize,
         zeros: *mut Segment,
         zeros_room: usize,
-        moments: *mut RawMoment,
-        moments_room: usize,
-        work: *mut RawWork,
+        events: *mut RawEvent,
+        events_room: usize,
+        explanation: *mut RawExplanation,
     ) -> i32;
     pub fn dma330_device_registers(device: *mut RawDevice, channel: u8, registers: *mut RawRegisters) -> i32;
-    pub fn dma330_device_irqs(device: *mut RawDevice, lines: *mut u32) -> i32;
-    pub fn dma330_device_irq_abort(device: *mut RawDevice, line: *mut u32) -> i32;
+    pub fn dma330_device_lines(device: *mut RawDevice, irqs: *mut u32, irq_abort: *mut u32) -> i32;
     pub fn dma330_device_can_step(device: *mut RawDevice, can_step: *mut u32) -> i32;
     pub fn dma330_device_save(device: *mut RawDevice, out: *mut u8, room: usize, len: *mut usize) -> i32;
     pub fn dma330_device_restore(device: *mut RawDevice, save: *const u8, len: usize) -> i32;
@@ -464,20 +440,7 @@ extern "C" {
         program: *const u8,
         len: usize,
         bus: u32,
-        most: u32,
-        src: *mut Repeated,
-        src_room: usize,
-        dst: *mut Segment,
-        dst_room: usize,
-        happenings: *mut RawHappening,
-        happenings_room: usize,
-        explanation: *mut RawExplanation,
-    ) -> i32;
-    pub fn dma330_explain_work(
-        program: *const u8,
-        len: usize,
-        bus: u32,
-        start: *const RawRegisters,
+        start: *const RawStart,
         most: u32,
         src: *mut Repeated,
         src_room: usize,
@@ -485,9 +448,9 @@ extern "C" {
         dst_room: usize,
         zeros: *mut Segment,
         zeros_room: usize,
-        moments: *mut RawMoment,
-        moments_room: usize,
-        work: *mut RawWork,
+        events: *mut RawEvent,
+        events_room: usize,
+        explanation: *mut RawExplanation,
     ) -> i32;
     pub fn dma330_plan(
         src: *const Segment,

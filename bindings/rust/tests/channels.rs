@@ -3,7 +3,7 @@
 
 mod words;
 
-use dma330::{assemble, Channel, ChannelSteps, ChannelTurn, Error, MarkKind, Region, Segment};
+use dma330::{assemble, Access, Channel, ChannelStep, ChannelSteps, Error, Region, Segment};
 use words::{answer, groups, hex, lower, nothing, Words};
 
 const ROWS: &str = include_str!("../../../tests/c/channels.txt");
@@ -37,16 +37,16 @@ struct Runner {
     channel: Option<Channel>,
     parts: Vec<Part>,
     flags: u32,
-    marks: Vec<(MarkKind, Segment)>,
+    errors: Vec<(Access, Segment)>,
     save: Vec<u8>,
 }
 
 fn steps_text(steps: ChannelSteps) -> String {
     let word = lower(steps.last);
     let rest = match steps.last {
-        ChannelTurn::Waiting { event } | ChannelTurn::Signalled { event } => format!(" {event}"),
-        ChannelTurn::Fault { fault } => format!(" {fault:?}"),
-        ChannelTurn::NoStep | ChannelTurn::Moved | ChannelTurn::Ended => String::new(),
+        ChannelStep::Waiting { event } | ChannelStep::Signalled { event } => format!(" {event}"),
+        ChannelStep::Fault { fault } => format!(" {fault:?}"),
+        ChannelStep::NoStep | ChannelStep::Moved | ChannelStep::Ended => String::new(),
     };
     let written = steps.written;
     let range = if written.len > 0 { format!(" wrote 0x{:08X}+{}", written.addr, written.len) } else { String::new() };
@@ -70,7 +70,7 @@ fn regions(parts: &mut [Part]) -> Vec<Region<'_>> {
 
 impl Runner {
     fn new(way: Way) -> Runner {
-        Runner { way, channel: None, parts: Vec::new(), flags: 0, marks: Vec::new(), save: Vec::new() }
+        Runner { way, channel: None, parts: Vec::new(), flags: 0, errors: Vec::new(), save: Vec::new() }
     }
 
     fn channel(&mut self) -> &mut Channel {
@@ -84,12 +84,12 @@ impl Runner {
         &mut part.bytes[(addr - part.addr) as usize..]
     }
 
-    // Replaces the channel with another one that has its save and its marks.
+    // Replaces the channel with another one that has its save and its injected errors.
     fn replace_channel(&mut self) -> Result<(), Error> {
         let mut next = Channel::open()?;
         next.restore(&self.channel().save())?;
-        for (kind, range) in &self.marks {
-            next.mark(*kind, *range)?;
+        for (access, range) in &self.errors {
+            next.inject_error(*access, *range)?;
         }
         assert_eq!(next.registers(), self.channel().registers());
         self.channel = Some(next);
@@ -111,10 +111,10 @@ impl Runner {
             let steps = self.step(most.min(1))?;
             taken += steps.taken;
             written = joined(written, steps.written);
-            if steps.last == ChannelTurn::NoStep && taken > 0 {
-                return Ok(ChannelSteps { taken, last: ChannelTurn::Moved, written, ..steps });
+            if steps.last == ChannelStep::NoStep && taken > 0 {
+                return Ok(ChannelSteps { taken, last: ChannelStep::Moved, written, ..steps });
             }
-            if steps.last != ChannelTurn::Moved || taken == most {
+            if steps.last != ChannelStep::Moved || taken == most {
                 return Ok(ChannelSteps { taken, written, ..steps });
             }
         }
@@ -183,21 +183,21 @@ impl Runner {
             }
             "close" => {
                 self.channel = None;
-                self.marks.clear();
+                self.errors.clear();
                 Ok(String::new())
             }
             "step" if self.way == Way::Saved => self.single_steps(words.number()).map(steps_text),
             "step" | "call" => self.step(words.number()).map(steps_text),
             "registers" => Ok(self.registers()),
-            "mark" => {
-                let (kind, range) = (words.kind(), words.segment());
-                self.channel().mark(kind, range)?;
-                self.marks.push((kind, range));
+            "inject_error" => {
+                let (access, range) = (words.access(), words.segment());
+                self.channel().inject_error(access, range)?;
+                self.errors.push((access, range));
                 Ok(String::new())
             }
-            "unmark" => {
-                self.marks.clear();
-                self.channel().unmark();
+            "uninject_errors" => {
+                self.errors.clear();
+                self.channel().uninject_errors();
                 Ok(String::new())
             }
             "save" => {
@@ -282,6 +282,6 @@ fn a_call_ends_before_a_store_apart_from_what_it_wrote() {
     channel.load_copy(&[Segment::new(0, 0x200)], &ranges, Default::default()).expect("it breaks no rule");
     assert_eq!(step(&mut channel, 1000).2, ranges[0]);
     let (taken, last, written) = step(&mut channel, 1000);
-    assert_eq!((last, written), (ChannelTurn::Ended, ranges[1]));
+    assert_eq!((last, written), (ChannelStep::Ended, ranges[1]));
     assert!(taken > 1);
 }

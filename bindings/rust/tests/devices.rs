@@ -65,11 +65,11 @@ fn turns_report_what_they_did() -> Result<(), Error> {
     device.write(0x020, 1 << 3, &[])?;
     start(&mut device, &mut ram, COPY)?;
     let mut lent = [Region::new(RAM, &mut ram)];
-    let idle = DeviceTurn { written: Segment::default(), lines_changed: false, can_step: true };
+    let idle = DeviceTurn { written: Segment::default(), taken: 0, lines_changed: false, can_step: true };
     assert_eq!(device.step(0, 100, &mut lent)?, idle);
-    assert_eq!(device.step(1, 4, &mut lent)?, idle);
+    assert_eq!(device.step(1, 4, &mut lent)?, DeviceTurn { taken: 4, ..idle });
     let written = Segment::new(RAM + 0x200, 4);
-    assert_eq!(device.step(1, 100, &mut lent)?, DeviceTurn { written, lines_changed: true, can_step: false });
+    assert_eq!(device.step(1, 100, &mut lent)?, DeviceTurn { written, taken: 3, lines_changed: true, can_step: false });
     assert_eq!((device.irqs(), device.irq_abort(), device.can_step()), (1 << 3, false, false));
     device.write(0x02C, 1 << 3, &lent)?;
     assert_eq!(device.irqs(), 0);
@@ -167,15 +167,15 @@ fn rows_are_turns() -> Result<(), Error> {
     assert_eq!(device.step_rows(1, 1000, &mut lent)?.ranges().map(|range| range.len).collect::<Vec<u32>>(), [0]);
     let rows = device.step_rows(1, 1000, &mut lent)?;
     let written = Segment { addr: RAM + 0x200, len: 4 };
-    let wanted = DeviceRows { written, pitch: 16, count: 3, steps: 5, taken: 5, lines_changed: false, can_step: true };
-    assert_eq!(rows, wanted);
+    let turn = DeviceTurn { written, taken: 5, lines_changed: false, can_step: true };
+    assert_eq!(rows, DeviceRows { turn, pitch: 16, count: 3, steps: 5 });
     let addrs: Vec<u32> = rows.ranges().map(|range| range.addr).collect();
     assert_eq!(addrs, [RAM + 0x200, RAM + 0x210, RAM + 0x220]);
     let registers = device.registers(1)?;
     assert_eq!((registers.taken, registers.stored, registers.lc0), (4 + 3 * 5, 12, 0));
     assert_eq!(device.registers(2).err(), Some(Error::NoChannel));
     let end = device.step_rows(1, 1000, &mut lent)?;
-    assert_eq!((end.taken, end.can_step), (5 + 1, false));
+    assert_eq!((end.turn.taken, end.turn.can_step), (5 + 1, false));
     assert_eq!((&ram[0x200..0x204], &ram[0x230..0x234]), (&[0, 1, 2, 3][..], &[24, 25, 26, 27][..]));
     Ok(())
 }

@@ -3,7 +3,7 @@
 
 mod words;
 
-use dma330::{AssemblyFault, Bus, Controller, DisassemblyFault, Error, Explanation, Outcome, RunEnd, Steps, Turn};
+use dma330::{AssemblyFault, Bus, Controller, DisassemblyFault, Error, Explanation, Outcome, RunEnd, Start, Step, Steps};
 use std::process::Command;
 use words::{answer, groups, hex, lower, name, nothing, small, Transfer, Words};
 
@@ -16,32 +16,32 @@ fn outcome_text(outcome: Outcome) -> String {
     format!("{:?} residue {}", outcome.result, outcome.residue)
 }
 
-fn turn_text(turn: Option<Turn>) -> String {
-    let Some(turn) = turn else {
+fn step_text(step: Option<Step>) -> String {
+    let Some(step) = step else {
         return "no_step".into();
     };
-    let word = lower(turn);
-    match turn {
-        Turn::Started { cookie } => format!("{word} {cookie}"),
-        Turn::Held { channel, cookie } => format!("{word} {channel} {cookie}"),
-        Turn::Waiting { event } => format!("{word} {event}"),
-        Turn::Finished { cookie, outcome } => format!("{word} {cookie} {}", outcome_text(outcome)),
-        Turn::Moved | Turn::Nothing | Turn::Paused | Turn::Halted => word,
+    let word = lower(step);
+    match step {
+        Step::Started { cookie } => format!("{word} {cookie}"),
+        Step::Held { channel, cookie } => format!("{word} {channel} {cookie}"),
+        Step::Waiting { event } => format!("{word} {event}"),
+        Step::Finished { cookie, outcome } => format!("{word} {cookie} {}", outcome_text(outcome)),
+        Step::Moved | Step::Nothing | Step::Paused | Step::Halted => word,
     }
 }
 
 fn end_text(end: RunEnd) -> String {
     let word = lower(end);
     match end {
-        RunEnd::Ended { turns } => format!("{word} {turns}"),
-        RunEnd::OutOfTurns => word,
+        RunEnd::Ended { steps } => format!("{word} {steps}"),
+        RunEnd::OutOfSteps => word,
         RunEnd::Waiting { event } => format!("{word} {event}"),
         RunEnd::Fault { fault, pc } => format!("{word} {fault:?} {pc}"),
     }
 }
 
 fn explanation_text(found: Explanation) -> String {
-    let mut text = format!("{} {}", found.size, found.steps);
+    let mut text = format!("{} {}", found.copied, found.steps);
     for it in found.src {
         text += &format!(" 0x{:X}+{}x{}", it.addr, it.len, it.times);
     }
@@ -49,8 +49,14 @@ fn explanation_text(found: Explanation) -> String {
     for it in found.dst {
         text += &format!(" 0x{:X}+{}", it.addr, it.len);
     }
-    for it in found.happenings {
-        text += &format!(" {} {} at {}", lower(it.kind), it.event, it.stored);
+    if !found.zeros.is_empty() {
+        text += " zeros";
+    }
+    for it in found.zeros {
+        text += &format!(" 0x{:X}+{}", it.addr, it.len);
+    }
+    for it in found.events {
+        text += &format!(" {} {} at {}", lower(it.kind), it.event, it.copied + it.cleared);
     }
     text
 }
@@ -68,7 +74,7 @@ fn program_call(call: &str, mut words: Words) -> Result<String, Error> {
     match call {
         "explain" => {
             let (most, _room, program) = (words.number(), words.number(), words.bytes());
-            dma330::explain(&program, bus, most).map(explanation_text)
+            dma330::explain(&program, bus, Start::default(), most).map(explanation_text)
         }
         "plan" => {
             let _room = words.number();
@@ -124,7 +130,7 @@ impl Runner {
         let mut left = count;
         while left > 0 {
             let steps = self.controller().step(channel, 1);
-            let now = answer(steps.map(|steps| turn_text(steps.last)));
+            let now = answer(steps.map(|steps| step_text(steps.last)));
             let is_same = runs.last().map_or(false, |(last, _)| *last == now);
             if !is_same {
                 runs.push((now, 0));
@@ -143,12 +149,12 @@ impl Runner {
         // (this tests the rules of the transfer)
         plan(transfer, Bus::Channel)?;
         let controller = self.controller();
-        if controller.unfinished(0) > 0 || controller.step(0, 1)?.last != Some(Turn::Nothing) {
+        if controller.unfinished(0) > 0 || controller.step(0, 1)?.last != Some(Step::Nothing) {
             return Ok("refused ChannelInUse".into());
         }
         self.submit(0, transfer)?;
         self.controller().issue(0)?;
-        self.controller().step(0, u32::MAX).map(|steps| format!("{word} {}", turn_text(steps.last)))
+        self.controller().step(0, u32::MAX).map(|steps| format!("{word} {}", step_text(steps.last)))
     }
 
     fn totals(&mut self) -> String {
@@ -168,13 +174,13 @@ impl Runner {
                 self.copy(call, &Transfer { src, dst, events })
             }
             "raise" => self.controller().raise(small(words.number())).map(nothing),
-            "unmark" => self.controller().unmark().map(nothing),
+            "unmark" | "uninject_errors" => self.controller().uninject_errors().map(nothing),
             "checkpoint" => self.controller().checkpoint().map(nothing),
             "totals" => Ok(self.totals()),
             "history_bytes" => Ok(self.controller().history_bytes().to_string()),
-            "mark" => {
-                let (kind, range) = (words.kind(), words.segment());
-                self.controller().mark(kind, range).map(nothing)
+            "mark" | "inject_error" => {
+                let (access, range) = (words.access(), words.segment());
+                self.controller().inject_error(access, range).map(nothing)
             }
             "write" => {
                 let (addr, bytes) = (words.number(), words.bytes());
@@ -225,7 +231,7 @@ impl Runner {
             "terminate" => controller.terminate(channel).map(|count| format!("aborted {count}")),
             "steps" => {
                 let Steps { taken, last } = controller.step(channel, words.number())?;
-                Ok(format!("steps {channel} taken {taken} {}", turn_text(last)))
+                Ok(format!("steps {channel} taken {taken} {}", step_text(last)))
             }
             "status" => Ok(format!("status {}", name(controller.status(channel, words.number())))),
             "result" => {
@@ -353,7 +359,7 @@ fn plan_lines(text: &str) -> String {
     let (number, line) = (1..).zip(text.lines()).find(|(_, line)| !is_skipped(line)).expect("a transfer");
     match plan(&Words(line).transfer(), Bus::Channel) {
         Ok(bytes) => {
-            let cost = dma330::explain(&bytes, Bus::Channel, 1_000_000).expect("a copy").steps;
+            let cost = dma330::explain(&bytes, Bus::Channel, Start::default(), 1_000_000).expect("a copy").steps;
             format!("{}bytes {}\ncost {cost}\n", byte_lines(&bytes), bytes.len())
         }
         Err(error) => format!("line {number}: {error:?}\n"),

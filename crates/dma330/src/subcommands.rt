@@ -3,7 +3,7 @@ use clap::{Arg, ArgAction, ArgGroup, Command};
 use std::alloc::{AllocError, Global};
 
 /// The version of the program, the same as that of the library for C.
-const VERSION: &str = "1.6.0";
+const VERSION: &str = "1.0.0";
 
 /// How an argument is given.
 #[derive(Clone, Copy)]

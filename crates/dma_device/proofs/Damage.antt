@@ -2,11 +2,11 @@
 use Rattle.std.proofs.Common.{◌≡◌, ◌≢◌, ◌∙◌, ℕ, zero, suc, ◌+◌, ◌%◌, ◌^◌, ◌<◌, ◌++◌, List, [], ◌∷◌, length, take, drop, get_or, set, ap, refl, sym, arith, inl}
 use Rattle.std.proofs.Common.{inr}
 use Rattle.std.specs.Int.{w32, to_le_bytes}
-use Rattle.std.proofs.lemmas.List.{drop-set-lt, drop_at, get_or-set_other, get_or-set_same, get_or-take, length-set, take-append-drop, take-set-le, take_at}
-use Rattle.std.proofs.{lemmas.Bool.cases_eq, lemmas.Bool.cases_lt, lemmas.Nat.from_le_bytes-to_le_bytes_4}
+use Rattle.std.proofs.lemmas.List.{drop-set-lt, drop_at, get_or-set_same, get_or-take, length-set, take-append-drop, take-set-le, take_at}
+use Rattle.std.proofs.{lemmas.Bool.cases_lt, lemmas.Nat.from_le_bytes-to_le_bytes_4}
 use Rattle.dma_chan.specs.Saved.{adler, adler_prime, checksum}
-use Rattle.dma_device.specs.{Device.DeviceValue, Snapshot.DamageIsRefused, Snapshot.parts_in, Snapshot.saved_device}
-use Rattle.dma_device.proofs.SavedDevices.{old_version, own_length, own_parts, own_version}
+use Rattle.dma_device.specs.{Device.DeviceValue, Snapshot.DamageIsRefused, Snapshot.device_parts, Snapshot.saved_device}
+use Rattle.dma_device.proofs.SavedDevices.{own_length, own_parts}
 
 -- ---- a list with another item
 
@@ -55,40 +55,31 @@ one_differs bs k v within old new other same =
 
 -- ---- a save
 
-front : (save : List ℕ) (d : DeviceValue) (n : ℕ) → save ≡ saved_device d → length (parts_in 2 d) ≡ n → take n save ≡ parts_in 2 d
-front save d n is count = ap (take n) (is ∙ own_parts d) ∙ take_at (parts_in 2 d) (to_le_bytes w32 (checksum (parts_in 2 d))) n count
+front : (save : List ℕ) (d : DeviceValue) (n : ℕ) → save ≡ saved_device d → length (device_parts d) ≡ n → take n save ≡ device_parts d
+front save d n is count = ap (take n) (is ∙ own_parts d) ∙ take_at (device_parts d) (to_le_bytes w32 (checksum (device_parts d))) n count
 
-back : (save : List ℕ) (d : DeviceValue) (n : ℕ) → save ≡ saved_device d → length (parts_in 2 d) ≡ n → drop n save ≡ to_le_bytes w32 (checksum (parts_in 2 d))
-back save d n is count = ap (drop n) (is ∙ own_parts d) ∙ drop_at (parts_in 2 d) (to_le_bytes w32 (checksum (parts_in 2 d))) n count
+back : (save : List ℕ) (d : DeviceValue) (n : ℕ) → save ≡ saved_device d → length (device_parts d) ≡ n → drop n save ≡ to_le_bytes w32 (checksum (device_parts d))
+back save d n is count = ap (drop n) (is ∙ own_parts d) ∙ drop_at (device_parts d) (to_le_bytes w32 (checksum (device_parts d))) n count
 
 pub damage_is_refused : DamageIsRefused
-damage_is_refused d e save k v is bytes within few other version (inr old) =
-    let new : get_or (set save k v) 7 0 ≡ 1 = ap (λ (l : List ℕ). get_or l 7 0) old ∙ old_version e in
-    let was : get_or save 7 0 ≡ 2 = ap (λ (l : List ℕ). get_or l 7 0) is ∙ own_version d in
-    elim (cases_eq k 7) [
-      | inl here ↦ version here (sym (get_or-set_same save k v 0 within) ∙ ap (λ (j : ℕ). get_or (set save k v) j 0) here ∙ new)
-      | inr apart ↦
-          let same = get_or-set_other save k 7 v 0 (λ seven. apart (sym seven)) in
-          omega (arith, new, was, same)
-    ]
-damage_is_refused d e save k v is bytes within few other version (inl own) =
-    let n = length (parts_in 2 d) in
+damage_is_refused d e save k v is bytes within few other own =
+    let n = length (device_parts d) in
     let changed = set save k v in
-    let count : length (parts_in 2 e) ≡ n = omega (arith, ap length is, own_length d, ap length own, own_length e, length-set save k v) in
+    let count : length (device_parts e) ≡ n = omega (arith, ap length is, own_length d, ap length own, own_length e, length-set save k v) in
     let one = front save d n is refl in
     let two = front changed e n own count in
     let sum_one = back save d n is refl in
     let sum_two = back changed e n own count in
     elim (cases_lt k n) [
       | inl below ↦
-          let parts : parts_in 2 e ≡ set (parts_in 2 d) k v = sym two ∙ take_below save n k v below ∙ ap (λ (l : List ℕ). set l k v) one in
-          let sums : to_le_bytes w32 (checksum (parts_in 2 e)) ≡ to_le_bytes w32 (checksum (parts_in 2 d)) = sym sum_two ∙ drop-set-lt n save k v below
+          let parts : device_parts e ≡ set (device_parts d) k v = sym two ∙ take_below save n k v below ∙ ap (λ (l : List ℕ). set l k v) one in
+          let sums : to_le_bytes w32 (checksum (device_parts e)) ≡ to_le_bytes w32 (checksum (device_parts d)) = sym sum_two ∙ drop-set-lt n save k v below
           ∙ sum_one in
-          let same : checksum (parts_in 2 e) ≡ checksum (parts_in 2 d) = grind (arith, from_le_bytes-to_le_bytes_4, sum_few) in
-          let item : get_or (parts_in 2 d) k 0 ≡ get_or save k 0 = ap (λ (l : List ℕ). get_or l k 0) (sym one) ∙ get_or-take n save k 0 below in
-          one_differs (parts_in 2 d) k v below (omega (arith, item, bytes k)) few (λ e. other (sym item ∙ e)) (ap checksum (sym parts) ∙ same)
+          let same : checksum (device_parts e) ≡ checksum (device_parts d) = grind (arith, from_le_bytes-to_le_bytes_4, sum_few) in
+          let item : get_or (device_parts d) k 0 ≡ get_or save k 0 = ap (λ (l : List ℕ). get_or l k 0) (sym one) ∙ get_or-take n save k 0 below in
+          one_differs (device_parts d) k v below (omega (arith, item, bytes k)) few (λ e. other (sym item ∙ e)) (ap checksum (sym parts) ∙ same)
       | inr above ↦
-          let parts : parts_in 2 e ≡ parts_in 2 d = sym two ∙ take-set-le n save k v above ∙ one in
+          let parts : device_parts e ≡ device_parts d = sym two ∙ take-set-le n save k v above ∙ one in
           let sums : drop n changed ≡ drop n save = sum_two ∙ ap (λ (l : List ℕ). to_le_bytes w32 (checksum l)) parts ∙ sym sum_one in
           let all : changed ≡ save =
           sym (take-append-drop n changed) ∙ ap (λ (l : List ℕ). l ++ drop n changed) (take-set-le n save k v above)

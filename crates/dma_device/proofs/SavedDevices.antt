@@ -5,7 +5,7 @@ use Rattle.std.proofs.lemmas.List.{drop_at, length-append, drop-drop, drop_all, 
 use Rattle.std.proofs.{Math.Seq.drop-cons, Math.Seq.take-suc, lemmas.List.Concat.flat_map-append, lemmas.Nat.from_le_bytes-to_le_bytes_4}
 use Rattle.std.specs.{Int.w32, Int.to_le_bytes, Int.from_le_bytes, List.All, List.flat_map}
 use Rattle.dma_chan.specs.Saved.{checksum, sealed, saved}
-use Rattle.dma_device.specs.Snapshot.{HasKnownEvents, IsDeviceValue, IsThreadValue, head_bytes, head_in, head_of, identity, old_save, parts_in, saved_device}
+use Rattle.dma_device.specs.Snapshot.{HasKnownEvents, IsDeviceValue, IsThreadValue, device_parts, head_bytes, head_of, identity, saved_device}
 use Rattle.dma_device.specs.Snapshot.{saved_thread, thread_bytes}
 use Rattle.dma_device.specs.{declared.config.Config.Config, declared.save.head.Head.Head, declared.thread.Thread.Thread, Device.DeviceValue, Device.csr}
 use Rattle.dma_device.specs.{Thread.IsOn, Thread.has_status, Thread.status_bits, Config.is_valid, inner.Saves.HasHeadRanges, declared.thread.Status.Status}
@@ -146,8 +146,8 @@ part_at {X} {Y} f xs n at all x less is here =
     ∙ ap (flat_map f) (drop-cons xs n x less)
 
 -- The numbers of a device's head are in their ranges.
-pub device_ranges_in : (version : ℕ) (d : DeviceValue) → IsDeviceValue d → HasHeadRanges (head_in version d)
-device_ranges_in version d v =
+pub device_ranges : (d : DeviceValue) → IsDeviceValue d → HasHeadRanges (head_of d)
+device_ranges d v =
     let few = few_events d.config v.config in
     record {
       fault = v.fault;
@@ -158,8 +158,8 @@ device_ranges_in version d v =
       dbginst1 = v.dbginst1;
     }
 
-pub known_in : (version : ℕ) (d : DeviceValue) → IsDeviceValue d → HasKnownEvents (head_in version d)
-known_in version d v = record { events = v.known.events; interrupts = v.known.interrupts; inten = v.known.inten }
+pub known_of : (d : DeviceValue) → IsDeviceValue d → HasKnownEvents (head_of d)
+known_of d v = record { events = v.known.events; interrupts = v.known.interrupts; inten = v.known.inten }
 
 -- What every device satisfies, in parts.
 pub device_value_is : (d : DeviceValue) → is_valid d.config ≡ true → HasKnownEvents (head_of d) → HasHeadRanges (head_of d)
@@ -180,39 +180,26 @@ from_head g h ts = record {
 }
 
 -- The saves of the threads follow the head.
-pub threads_behind : (version : ℕ) (d : DeviceValue) (save : List ℕ) → save ≡ parts_in version d
+pub threads_behind : (d : DeviceValue) (save : List ℕ) → save ≡ device_parts d
     → take (length save - 40) (drop 40 save) ≡ flat_map saved_thread d.threads
-unfolding parts_in
-threads_behind version d save e =
-    tail_is 40 save ∙ ap (drop 40) e ∙ drop_at (head_bytes (head_in version d)) (flat_map saved_thread d.threads) 40 (head_length (head_in version d))
+unfolding device_parts
+threads_behind d save e =
+    tail_is 40 save ∙ ap (drop 40) e ∙ drop_at (head_bytes (head_of d)) (flat_map saved_thread d.threads) 40 (head_length (head_of d))
 
-pub device_length : (version : ℕ) (d : DeviceValue) → length (parts_in version d) ≡ 40 + length (flat_map saved_thread d.threads)
-unfolding parts_in
-device_length version d = omega (arith, length-append (head_bytes (head_in version d)) (flat_map saved_thread d.threads), head_length (head_in version d))
+pub device_length : (d : DeviceValue) → length (device_parts d) ≡ 40 + length (flat_map saved_thread d.threads)
+unfolding device_parts
+device_length d = omega (arith, length-append (head_bytes (head_of d)) (flat_map saved_thread d.threads), head_length (head_of d))
 
 -- the version and the configuration, at their place
-pub own_identity : (d : DeviceValue) → take 8 (drop 7 (saved_device d)) ≡ identity 2 d.config
-unfolding saved_device parts_in head_bytes sealed
+pub own_identity : (d : DeviceValue) → take 8 (drop 7 (saved_device d)) ≡ identity d.config
+unfolding saved_device device_parts head_bytes sealed
 own_identity d = refl
 
-pub old_identity : (d : DeviceValue) → take 8 (drop 7 (old_save d)) ≡ identity 1 d.config
-unfolding parts_in head_bytes
-old_identity d = refl
-
--- the version, at its place
-pub own_version : (d : DeviceValue) → get_or (saved_device d) 7 0 ≡ 2
-unfolding saved_device parts_in head_bytes sealed
-own_version d = refl
-
-pub old_version : (d : DeviceValue) → get_or (old_save d) 7 0 ≡ 1
-unfolding parts_in head_bytes
-old_version d = refl
-
 -- a save, with its checksum
-pub own_length : (d : DeviceValue) → length (saved_device d) ≡ length (parts_in 2 d) + 4
+pub own_length : (d : DeviceValue) → length (saved_device d) ≡ length (device_parts d) + 4
 unfolding saved_device sealed
-own_length d = length-append (parts_in 2 d) (to_le_bytes w32 (checksum (parts_in 2 d)))
+own_length d = length-append (device_parts d) (to_le_bytes w32 (checksum (device_parts d)))
 
-pub own_parts : (d : DeviceValue) → saved_device d ≡ parts_in 2 d ++ to_le_bytes w32 (checksum (parts_in 2 d))
+pub own_parts : (d : DeviceValue) → saved_device d ≡ device_parts d ++ to_le_bytes w32 (checksum (device_parts d))
 unfolding saved_device sealed
 own_parts d = refl

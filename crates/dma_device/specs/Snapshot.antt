@@ -1,5 +1,5 @@
 -- The bytes of a saved device. Numbers of several bytes are little-endian.
-use Rattle.std.specs.Prelude.{◌≡◌, ◌≢◌, ◌⊎◌, ℕ, ◌^◌, ◌<◌, ◌≤◌, true, List, [], ◌∷◌, ◌++◌, length, take, drop, slice_index, slice_set}
+use Rattle.std.specs.Prelude.{◌≡◌, ◌≢◌, ℕ, ◌^◌, ◌<◌, ◌≤◌, true, List, [], ◌∷◌, ◌++◌, length, take, drop, slice_index, slice_set}
 use Rattle.std.specs.{Int.w16, Int.w32, Int.to_le_bytes, List.All, List.flat_map}
 use Rattle.dma_insn.specs.ControlWord.{flag}
 use Rattle.dma_chan.specs.{Saved.AreBytes, Saved.IsChannelValue, Saved.saved, Saved.sealed, Bus.bus_code}
@@ -22,10 +22,9 @@ pub record HasKnownEvents (h : Head) : Type 0 where
   pub interrupts : h.interrupts < 2 ^ h.config.events
   pub inten : h.inten < 2 ^ h.config.events
 
--- the values in the head of a device's save in this version of the format
-abbrev pub head_in : ℕ → DeviceValue → Head
-head_in version d = record {
-  version = version;
+-- the values in the head of a device's save
+abbrev pub head_of : DeviceValue → Head
+head_of d = record {
   config = d.config;
   manager = d.manager;
   events = d.events;
@@ -34,10 +33,6 @@ head_in version d = record {
   dbginst0 = d.dbginst0;
   dbginst1 = d.dbginst1;
 }
-
--- the values in the head of a device's save
-abbrev pub head_of : DeviceValue → Head
-head_of d = head_in 2 d
 
 -- What every device satisfies: its configuration is valid, its events are known, its other registers have 32 bits, and
 -- it has a thread for each channel, on the bus of its configuration (a save has no bus).
@@ -57,18 +52,18 @@ pub record IsDeviceValue (d : DeviceValue) : Type 0 where
 abbrev pub magic : List ℕ
 magic = 100 ∷ 109 ∷ 97 ∷ 51 ∷ 51 ∷ 48 ∷ 1 ∷ []
 
--- The version and the configuration: channels, events, 1 if the manager is non-secure after a reset, else 0, the codes
--- of the bus in CRD and of the revision in periph_id_2, and the lines in two bytes.
-abbrev pub identity : ℕ → Config → List ℕ
-identity version g =
-    version ∷ g.channels ∷ g.events ∷ flag g.nonsecure ∷ bus_code g.bus ∷ revision_code g.revision ∷ to_le_bytes w16 g.lines
+-- The version of the format, 1, and the configuration: channels, events, 1 if the manager is non-secure after a reset,
+-- else 0, the codes of the bus in CRD and of the revision in periph_id_2, and the lines in two bytes.
+abbrev pub identity : Config → List ℕ
+identity g =
+    1 ∷ g.channels ∷ g.events ∷ flag g.nonsecure ∷ bus_code g.bus ∷ revision_code g.revision ∷ to_le_bytes w16 g.lines
 
 -- The head of a save, 40 bytes: the magic; the version and the configuration; 1 if the manager is faulting, else 0; and
 -- four bytes each of FTRD, the events and the interrupts that are set, INTEN, DBGINST0 and DBGINST1.
 unfoldable pub head_bytes : Head → List ℕ
 head_bytes h =
     magic
-    ++ identity h.version h.config
+    ++ identity h.config
     ++ (flag h.manager.is_faulting ∷ [])
     ++ to_le_bytes w32 h.manager.fault
     ++ to_le_bytes w32 h.events
@@ -91,40 +86,30 @@ thread_bytes t len =
 unfoldable pub saved_thread : Thread → List ℕ
 saved_thread t = thread_bytes t (length (saved t.channel)) ++ saved t.channel
 
--- the head with this version, and the threads in order
-unfoldable pub parts_in : ℕ → DeviceValue → List ℕ
-parts_in version d = head_bytes (head_in version d) ++ flat_map saved_thread d.threads
+-- the head, and the threads in order
+unfoldable pub device_parts : DeviceValue → List ℕ
+device_parts d = head_bytes (head_of d) ++ flat_map saved_thread d.threads
 
--- A save: the head with version 2, the threads in order, and the checksum of everything before it.
+-- A save: the head, the threads in order, and the checksum of everything before it.
 unfoldable pub saved_device : DeviceValue → List ℕ
-saved_device d = sealed (parts_in 2 d)
-
--- a save of version 1, which has no checksum of its own
-abbrev pub old_save : DeviceValue → List ℕ
-old_save d = parts_in 1 d
-
--- the bytes are the save of a device, of either version
-abbrev pub IsSavedAs : List ℕ → DeviceValue → Type 0
-IsSavedAs save d = (save ≡ saved_device d) ⊎ (save ≡ old_save d)
+saved_device d = sealed (device_parts d)
 
 -- the most bytes of a save: 40 of the head, for each of 8 threads 20 and the 8,500 of the longest save of a channel, and
 -- 4 of the checksum
 abbrev pub most_saved : ℕ
 most_saved = 68204
 
--- Bytes begin as the save of a device of another version or configuration: with the magic, but not with version 1 or 2
--- and this configuration behind it.
+-- Bytes begin as the save of a device of another version or configuration: with the magic, but not with this version
+-- and configuration behind it.
 pub record IsOfOther (g : Config) (save : List ℕ) : Type 0 where
   pub long : 15 ≤ length save
   pub magic : take 7 save ≡ magic
-  pub other : take 8 (drop 7 save) ≢ identity 2 g
-  pub older : take 8 (drop 7 save) ≢ identity 1 g
+  pub other : take 8 (drop 7 save) ≢ identity g
 
 -- ---- damage
 
--- A save in which one byte is another byte is the save of no device, unless it was the version and became 1. So each
--- flipped bit is refused: a 2 in which one bit is flipped isn't 1.
+-- A save in which one byte is another byte is the save of no device. So each flipped bit is refused.
 abbrev pub DamageIsRefused : Type 0
 DamageIsRefused =
     (d e : DeviceValue) (save : List ℕ) (k byte : ℕ) → save ≡ saved_device d → AreBytes save → k < length save →
-    byte < 256 → slice_index save k ≢ byte → (k ≡ 7 → byte ≢ 1) → ¬ IsSavedAs (slice_set save k byte) e
+    byte < 256 → slice_index save k ≢ byte → ¬ (slice_set save k byte ≡ saved_device e)

@@ -59,16 +59,16 @@ loads_a_transfer = record {
 -- ---- reports
 
 module _ (r : ChannelReport) (taken pc : ℕ) (w : Segment) (last : Option ChanTurn) (signal : Option ℕ) (is : r ≡ channel_report taken pc w last signal) where
-  ended : r.turn ≡ 3 → last ≡ Some Ended
+  ended : r.last ≡ 3 → last ≡ Some Ended
   ended e = grind arith
 
-  failed : r.turn ≡ 4 → (kind : FaultKind) × (last ≡ Some (Fault kind))
+  failed : r.last ≡ 4 → (kind : FaultKind) × (last ≡ Some (Fault kind))
   failed e = grind arith
 
-  signalled : r.turn ≡ 5 → signal ≡ Some r.event
+  signalled : r.last ≡ 5 → signal ≡ Some r.event
   signalled e = grind arith
 
-  waited : r.turn ≡ 2 → last ≡ Some (Waiting r.event)
+  waited : r.last ≡ 2 → last ≡ Some (Waiting r.event)
   waited e = grind arith
 
   taken_in : r.taken ≡ taken

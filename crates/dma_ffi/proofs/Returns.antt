@@ -8,7 +8,7 @@ use Rattle.dma_mem.specs.{declared.transfer.TransferFault.TransferFault, declare
 use Rattle.dma_engine.specs.{declared.call.Reply.Reply, declared.fault.EngineFault.EngineFault, declared.outcome.Outcome.Outcome, declared.turn.Running.Running}
 use Rattle.dma_engine.specs.{declared.turn.Status.Status, View.View, View.EngineState, View.object_of, View.running_on, Answer.CallAnswers, Answer.reply_of}
 use Rattle.dma_engine.specs.{Answer.result_of, Answer.status_in, Room.HasNoSpare}
-use Rattle.dma_ffi.specs.Codes.{answer_code, bad_kind, fault_code, found_code, mark_kind, no_result, not_running, reply_code, status_code, value_or}
+use Rattle.dma_ffi.specs.Codes.{answer_code, bad_access, fault_code, found_code, mark_kind, no_result, not_running, reply_code, status_code, value_or}
 use Rattle.dma_ffi.specs.Requests.{Answer, Answers, AnswersMark, AnswersSteps, IsWritten, EffectOf, Request, Returns, Value, Written, a_conflict, a_number}
 use Rattle.dma_ffi.specs.Requests.{a_report, a_run, an_outcome, ask_call, ask_mark, ask_steps, ask_submit, ask_value, bytes_in, closed, code_of}
 use Rattle.dma_ffi.specs.Requests.{conflict_in, known, no_kind, nothing, number_in, numbered, outcome_in, replied, run_in, runs, stepped, steps_answer, the_run}
@@ -121,7 +121,7 @@ returns_submit old code after e e' before ch t (Err fault) is was h =
     returns (ask_submit ch t) (a_number before after) (unfit fault) e e' was (inl (ap unfit is, h.2)) h.0 h.1 tt
 
 -- a mark of no kind
-pub returns_no_kind : (old : Option EngineState) {code : ℤ} (number : ℕ) (range : Segment) → None ≡ mark_kind number → IsSome old → code ≡ bad_kind
+pub returns_no_kind : (old : Option EngineState) {code : ℤ} (number : ℕ) (range : Segment) → None ≡ mark_kind number → IsSome old → code ≡ bad_access
     → Returns old (ask_mark number range) code nothing old
 returns_no_kind (Some e) number range named there is =
     returns (ask_mark number range) nothing no_kind e e refl (subst (λ (o : Option MarkKind). AnswersMark e.view o range no_kind e.view) named (refl, refl)) is

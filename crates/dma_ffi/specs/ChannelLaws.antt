@@ -10,8 +10,8 @@ use Rattle.dma_chan.specs.{Stepping.Wrote, Stepping.machine, Written.KeepsOutsid
 use Rattle.dma_explain.specs.Changes.{Call, Change, DoesAll, DoesCall, HasCopied, HaveWorks, IsApart, LeavesAlone, SinceLoad, System}
 use Rattle.dma_explain.specs.Explains.{Explains, UsesEventsOf, IsLoadedWith, Work, only}
 use Rattle.dma_explain.specs.{declared.explain.Amounts.Amounts, RegionsHave.HaveAll}
-use Rattle.dma_ffi.specs.Channels.{Lent, LoadsBytes, LoadsFrom, LoadsTransfer, ReportsSteps, are_usable, channel_report, ended_turn, fault_turn, marks_over}
-use Rattle.dma_ffi.specs.Channels.{signalled_turn, waiting_turn}
+use Rattle.dma_ffi.specs.Channels.{Lent, LoadsBytes, LoadsFrom, LoadsTransfer, ReportsSteps, are_usable, channel_report, marks_over}
+use Rattle.dma_ffi.specs.Codes.{step_ended, step_failed, step_signalled, step_waits}
 use Rattle.dma_ffi.specs.{declared.channel_steps.ChannelReport.ChannelReport, declared.marked_channel.MarkedChannel.MarkedChannel, Codes.ok_code}
 
 -- ---- loads
@@ -120,26 +120,26 @@ copied n = record { copied = n; cleared = 0 }
 
 -- What a call from C has done and reports, where `call` is the same call in the words of `Changes`. A part of the
 -- transfer is done (`HasCopied`): as many bytes are copied as the channel counts in `stored`, which its registers show.
--- The report has the range that the call wrote. If the report's turn is a signal, the end or a wait, so is what the
--- call did, with the event that is reported. The turn is no fault if the regions have all addresses that the transfer
+-- The report has the range that the call wrote. If the report says that it signalled, ended or waits, so did
+-- the call, with the event that is reported. It reports no fault if the regions have all addresses that the transfer
 -- touches, none that it writes is read-only, and no mark of the channel lies at any of them.
 pub record ReportsCopy (program : List ℕ) (n : ℕ) (t : Descriptor) (first memory : ℕ → ℕ) (from : StepCall)
     (call : Call) : Type 0 where
   pub copy : HasCopied (start_on Ideal) program (only t) n first memory call
   pub done : copy.done ≡ copied (channel_of from.left).stored
   pub written : from.report.written ≡ call.written
-  pub signals : from.report.turn ≡ signalled_turn → call.signal ≡ Some from.report.event
-  pub ends : from.report.turn ≡ ended_turn → call.last ≡ Some Ended
-  pub waits : from.report.turn ≡ waiting_turn → call.last ≡ Some (Waiting from.report.event)
+  pub signals : from.report.last ≡ step_signalled → call.signal ≡ Some from.report.event
+  pub ends : from.report.last ≡ step_ended → call.last ≡ Some Ended
+  pub waits : from.report.last ≡ step_waits → call.last ≡ Some (Waiting from.report.event)
   pub never_fails : HaveAll from.lent.regions (only t) → Misses (marked_of from.lent.channel).marks t →
-      from.report.turn ≢ fault_turn
+      from.report.last ≢ step_failed
 
 -- What it reports besides, if the program has the transfer's events, as a compiled one has: a signal is the transfer's,
 -- and all bytes are copied then; a wait is for the transfer's event.
 pub record KeepsEvents (t : Descriptor) (from : StepCall) : Type 0 where
-  pub signals : from.report.turn ≡ signalled_turn →
+  pub signals : from.report.last ≡ step_signalled →
       (t.signal ≡ Some from.report.event) × ((channel_of from.left).stored ≡ size_of t)
-  pub waits : from.report.turn ≡ waiting_turn → t.wait ≡ Some from.report.event
+  pub waits : from.report.last ≡ step_waits → t.wait ≡ Some from.report.event
 
 -- A call from C has copied (`ReportsCopy`) if a transfer explains the channel's program, and either all changes since
 -- its load left the transfer alone, as in `CopiesSinceLoad`, or all were apart from it, as in `ChannelsCopy`. If the

@@ -10,7 +10,8 @@ use Rattle.dma_chan.specs.{LentRegions.AreKept, LentRegions.with_gaps_of, Saved.
 use Rattle.dma_chan.specs.{Stepping.TakesSteps, Stepping.signal_after, Stepping.written_after, Written.KeepsOutside, declared.turn.ChanTurn.ChanTurn}
 use Rattle.dma_chan.specs.{declared.turn.ChanTurn.TheVariants.Moved, declared.turn.ChanTurn.TheVariants.Waiting, declared.turn.ChanTurn.TheVariants.Ended}
 use Rattle.dma_chan.specs.{declared.turn.ChanTurn.TheVariants.Fault, declared.lent.Taken.Taken}
-use Rattle.dma_ffi.specs.Codes.{ok_code, not_open, already_open, no_memory, no_program, bad_kind, bad_range, bad_regions, bad_save, program_too_long}
+use Rattle.dma_ffi.specs.Codes.{ok_code, not_open, already_open, no_memory, no_program, bad_access, bad_range, bad_regions, bad_save, program_too_long}
+use Rattle.dma_ffi.specs.Codes.{no_step, step_ended, step_failed, step_moved, step_signalled, step_waits}
 use Rattle.dma_ffi.specs.Codes.{kind_number, transfer_code}
 use Rattle.dma_ffi.specs.{declared.channel_calls.ChannelRegisters.ChannelRegisters, declared.channel_steps.ChannelReport.ChannelReport}
 use Rattle.dma_ffi.specs.{declared.marked_channel.MarkedChannel.MarkedChannel, Calls.OnOpen}
@@ -78,10 +79,10 @@ registers_of c = record {
 abbrev pub is_bad_range : Segment → Bool
 is_bad_range range = range.len == 0 || nat_lt end_of_addresses (range.addr + range.len)
 
--- Marks a range for this kind. Fails with `bad_kind` if no kind has the number, with `bad_range` if the range can't be
+-- Marks a range for this kind. Fails with `bad_access` if no kind has the number, with `bad_range` if the range can't be
 -- marked, or with `no_memory`; the causes are checked in this order, and a failed call changes nothing.
 abbrev pub MarksRange : Option MarkKind → Segment → MarkedChannel → ℤ → MarkedChannel → Type 0
-MarksRange None range m code n = (code ≡ bad_kind) × (n ≡ m)
+MarksRange None range m code n = (code ≡ bad_access) × (n ≡ m)
 MarksRange (Some kind) range m code n =
     ((code ≡ bad_range) × (is_bad_range range ≡ true) × (n ≡ m))
     ⊎ (((code ≡ ok_code) × (is_bad_range range ≡ false) × (n ≡ record m { marks = m.marks ++ (kind, range) ∷ [] }))
@@ -143,45 +144,21 @@ over m regions flags = record { channel = m.channel; image = image_of (pieces_of
 abbrev pub marks_over : MarkedChannel → List Region → MarkList
 marks_over m regions = with_gaps_of regions m.marks
 
--- the number of a report without a step
-abbrev pub no_step_turn : ℕ
-no_step_turn = 0
-
--- the number of a last step that moved
-abbrev pub moved_turn : ℕ
-moved_turn = 1
-
--- the number of a last step that waits
-abbrev pub waiting_turn : ℕ
-waiting_turn = 2
-
--- the number of a last step that ended the program
-abbrev pub ended_turn : ℕ
-ended_turn = 3
-
--- the number of a last step that failed
-abbrev pub fault_turn : ℕ
-fault_turn = 4
-
--- the number of a last step that set a flag
-abbrev pub signalled_turn : ℕ
-signalled_turn = 5
-
--- a report of `taken` steps, with the offset of the next instruction, the range written and this turn number; event
--- and fault are 0
+-- a report of `taken` steps, with the offset of the next instruction, the range written and what the last step did;
+-- event and fault are 0
 abbrev pub did : ℕ → ℕ → Segment → ℕ → ChannelReport
-did taken pc written turn = record { taken = taken; turn = turn; event = 0; fault = 0; pc = pc; written = written }
+did taken pc written last = record { taken = taken; last = last; event = 0; fault = 0; pc = pc; written = written }
 
 -- the report of `taken` steps, with the offset of the next instruction, the range written, what the last step did, and
--- the event whose flag it set, if any; an event or fault that doesn't belong to this turn is 0
+-- the event whose flag it set, if any; an event or fault that doesn't belong to this is 0
 abbrev pub channel_report : ℕ → ℕ → Segment → Option ChanTurn → Option ℕ → ChannelReport
-channel_report taken pc written None signal = did taken pc written no_step_turn
-channel_report taken pc written (Some Moved) None = did taken pc written moved_turn
-channel_report taken pc written (Some Moved) (Some e) = record (did taken pc written signalled_turn) { event = e }
-channel_report taken pc written (Some (Waiting e)) signal = record (did taken pc written waiting_turn) { event = e }
-channel_report taken pc written (Some Ended) signal = did taken pc written ended_turn
+channel_report taken pc written None signal = did taken pc written no_step
+channel_report taken pc written (Some Moved) None = did taken pc written step_moved
+channel_report taken pc written (Some Moved) (Some e) = record (did taken pc written step_signalled) { event = e }
+channel_report taken pc written (Some (Waiting e)) signal = record (did taken pc written step_waits) { event = e }
+channel_report taken pc written (Some Ended) signal = did taken pc written step_ended
 channel_report taken pc written (Some (Fault kind)) signal =
-    record (did taken pc written fault_turn) { fault = kind_number kind }
+    record (did taken pc written step_failed) { fault = kind_number kind }
 
 -- Steps of an open channel with a program, over usable regions: the steps that were taken, the event whose flag the
 -- last of them set, if any, the range that they wrote, and the report of these and of the offset of the next

@@ -45,79 +45,79 @@ no_memory = minus 3
 
 -- an event is above 31
 abbrev pub bad_event : ℤ
-bad_event = minus 4
+bad_event = minus 12
 
--- no kind of mark has this number
-abbrev pub bad_kind : ℤ
-bad_kind = minus 5
+-- no kind of access has this number
+abbrev pub bad_access : ℤ
+bad_access = minus 13
 
 -- how the cookie finished isn't known
 abbrev pub no_result : ℤ
-no_result = minus 6
+no_result = minus 27
 
 -- nothing runs on the channel
 abbrev pub not_running : ℤ
-not_running = minus 7
+not_running = minus 26
 
 -- the buffer is too small for what is to be written
 abbrev pub buffer_too_small : ℤ
-buffer_too_small = minus 8
+buffer_too_small = minus 4
 
 -- the channel has no program
 abbrev pub no_program : ℤ
-no_program = minus 9
+no_program = minus 6
 
 -- there is no such channel
 abbrev pub no_channel : ℤ
-no_channel = minus 12
+no_channel = minus 5
 
--- a range to be marked is empty, or ends above 2^32
+-- a range in which accesses are to fail is empty, or ends above 2^32
 abbrev pub bad_range : ℤ
-bad_range = minus 15
+bad_range = minus 14
 
 -- a memory can't have this size
 abbrev pub size_out_of_range : ℤ
-size_out_of_range = minus 21
+size_out_of_range = minus 9
 
 -- there are more than 64 regions, they aren't in order, or one reaches beyond address 4,294,967,295
 abbrev pub bad_regions : ℤ
-bad_regions = minus 22
+bad_regions = minus 10
 
--- no device can have this configuration, or this bus
+-- no device can have this configuration or bus, or no program can begin so
 abbrev pub bad_config : ℤ
-bad_config = minus 23
+bad_config = minus 11
 
 -- a program is longer than 8,192 bytes
 abbrev pub program_too_long : ℤ
-program_too_long = minus 40
+program_too_long = minus 7
 
 -- the bytes aren't a save of a channel, or of any device
 abbrev pub bad_save : ℤ
-bad_save = minus 42
+bad_save = minus 30
 
 -- the save is of a device of another version or configuration
 abbrev pub other_device : ℤ
-other_device = minus 43
+other_device = minus 31
 
 -- the program isn't explained
 abbrev pub unexplained : ℤ
-unexplained = minus 70
+unexplained = minus 38
 
 -- the code of a refused call
 abbrev pub fault_code : EngineFault → ℤ
-fault_code OutOfMemoryRange = minus 10
-fault_code (Busy ch cookie) = minus 11
+fault_code OutOfMemoryRange = minus 15
+fault_code (Busy ch cookie) = minus 24
 fault_code NoChannel = no_channel
-fault_code CookiesSpent = minus 13
-fault_code StepsSpent = minus 14
+fault_code CookiesSpent = minus 28
+fault_code StepsSpent = minus 29
 fault_code BadEvent = bad_event
 fault_code BadRange = bad_range
-fault_code (Running ch cookie) = minus 16
+fault_code (Running ch cookie) = minus 25
 fault_code NoMemory = no_memory
 
 -- the code of a fault for which no engine is made
 abbrev pub new_code : NewFault → ℤ
-new_code engines.BadChannels = minus 20
+new_code engines.BadChannels = minus 8
 new_code engines.SizeOutOfRange = size_out_of_range
 new_code engines.NoMemory = no_memory
 
@@ -128,14 +128,14 @@ device_code devices.NoMemory = no_memory
 
 -- the code of a fault for which no transfer is made
 abbrev pub transfer_code : TransferFault → ℤ
-transfer_code transfers.EmptyList = minus 30
-transfer_code transfers.TooManySegments = minus 31
-transfer_code transfers.EmptySegment = minus 32
-transfer_code transfers.SegmentWraps = minus 33
-transfer_code transfers.TotalsDiffer = minus 34
-transfer_code transfers.TooLong = minus 35
-transfer_code transfers.DestinationsMeet = minus 36
-transfer_code transfers.SourceMeetsDestination = minus 37
+transfer_code transfers.EmptyList = minus 16
+transfer_code transfers.TooManySegments = minus 17
+transfer_code transfers.EmptySegment = minus 18
+transfer_code transfers.SegmentWraps = minus 19
+transfer_code transfers.TotalsDiffer = minus 20
+transfer_code transfers.TooLong = minus 21
+transfer_code transfers.DestinationsMeet = minus 22
+transfer_code transfers.SourceMeetsDestination = minus 23
 transfer_code transfers.BadEvent = bad_event
 transfer_code transfers.NoMemory = no_memory
 
@@ -146,15 +146,15 @@ program_code programs.NoMemory = no_memory
 
 -- the code of the reason that a line isn't an instruction
 abbrev pub cause_code : AsmCause → ℤ
-cause_code Mnemonic = minus 50
-cause_code Operand = minus 51
-cause_code Range = minus 52
+cause_code Mnemonic = minus 32
+cause_code Operand = minus 33
+cause_code Range = minus 34
 
 -- the code of the reason that bytes aren't an instruction
 abbrev pub decode_code : DecodeFault → ℤ
-decode_code Cut = minus 60
-decode_code (UnknownByte byte) = minus 61
-decode_code BadField = minus 62
+decode_code Cut = minus 35
+decode_code (UnknownByte byte) = minus 36
+decode_code BadField = minus 37
 
 -- the code of a cookie's status
 abbrev pub status_code : Status → ℤ
@@ -190,11 +190,61 @@ abbrev pub found_code : {A : Type 0} → ℤ → Option A → ℤ
 found_code missing None = missing
 found_code missing (Some x) = ok_code
 
+-- ---- what the last of some steps did
+
+-- none was taken
+abbrev pub no_step : ℕ
+no_step = 0
+
+-- an instruction was executed
+abbrev pub step_moved : ℕ
+step_moved = 1
+
+-- it waits for an event
+abbrev pub step_waits : ℕ
+step_waits = 2
+
+-- it was DMAEND
+abbrev pub step_ended : ℕ
+step_ended = 3
+
+-- it failed
+abbrev pub step_failed : ℕ
+step_failed = 4
+
+-- it set a flag
+abbrev pub step_signalled : ℕ
+step_signalled = 5
+
+-- the next transfer began to run
+abbrev pub step_started : ℕ
+step_started = 6
+
+-- the transfer finished
+abbrev pub step_finished : ℕ
+step_finished = 7
+
+-- no transfer is issued and unfinished
+abbrev pub step_nothing : ℕ
+step_nothing = 8
+
+-- the next transfer conflicts with a running one
+abbrev pub step_held : ℕ
+step_held = 9
+
+-- the channel is paused
+abbrev pub step_paused : ℕ
+step_paused = 10
+
+-- the channel is halted
+abbrev pub step_halted : ℕ
+step_halted = 11
+
 -- ---- other numbers
 
--- the kind of mark with this number, if any
+-- the kind of mark for accesses of this kind, if any: 0 for reads, 1 for writes
 abbrev pub mark_kind : ℕ → Option MarkKind
-mark_kind kind = if kind == 0 then Some Reading else (if kind == 1 then Some Writing else None)
+mark_kind access = if access == 0 then Some Reading else (if access == 1 then Some Writing else None)
 
 -- the number of how a cookie finished (from the kernel's enum dmaengine_tx_result)
 abbrev pub result_number : TransResult → ℕ

@@ -7,10 +7,10 @@ use Rattle.dma_mem.specs.{Lent.lies_in_any, declared.regions.Region.Region, decl
 use Rattle.dma_chan.specs.{LentRegions.AreKept, Written.KeepsOutside, Written.LiesIn, Written.range_at, declared.bus.BusWidth.BusWidth}
 use Rattle.dma_chan.specs.{declared.bus.BusWidth.TheVariants.Bits32, declared.bus.BusWidth.TheVariants.Bits64, declared.bus.BusWidth.TheVariants.Bits128}
 use Rattle.dma_device.specs.Accesses.{Does, Done, Reads, Resets, Restores, Turned, Turns, Value, Writes}
-use Rattle.dma_device.specs.Device.{DeviceValue, irq_abort, read_at, reset_device, written}
-use Rattle.dma_device.specs.Snapshot.{IsDeviceValue, IsOfOther, IsSavedAs, most_saved, saved_device}
+use Rattle.dma_device.specs.Device.{DeviceValue, irq_abort, irqs, read_at, reset_device, written}
+use Rattle.dma_device.specs.Snapshot.{IsDeviceValue, IsOfOther, most_saved, saved_device}
 use Rattle.dma_device.specs.declared.config.Revision.TheVariants.{R0p0, R1p0, R1p1, R1p2}
-use Rattle.dma_device.specs.{Config.is_valid, RowTurns.TakesRowTurns, Thread.can_step, Thread.shown, Turns.TakesTurn, Turns.visible_events}
+use Rattle.dma_device.specs.{Config.is_valid, Offsets.dbgcmd, RowTurns.TakesRowTurns, Thread.can_step, Thread.shown, Turns.TakesTurn, Turns.visible_events}
 use Rattle.dma_device.specs.{Writes.TurnWrote, declared.config.Config.Config, declared.config.Revision.Revision, declared.device.rows.RowTurns.RowTurns}
 use Rattle.dma_device.specs.{declared.device.turns.Turn.Turn, declared.save.RestoreFault.RestoreFault, declared.save.RestoreFault.TheVariants.BadSave}
 use Rattle.dma_device.specs.{declared.save.RestoreFault.TheVariants.OtherDevice}
@@ -69,12 +69,17 @@ Opens c None code (Some d) =
 
 -- ---- registers
 
--- Writes a register of an open device, over the RAM of these regions. Fails with `bad_regions` exactly if the regions
--- aren't usable, and then nothing changes.
+-- whether a write to the register at this offset may start a program, which is then read from the regions: to DBGCMD
+abbrev pub needs_regions : ℕ → Bool
+needs_regions at = at == dbgcmd
+
+-- Writes a register of an open device, over the RAM of these regions. Fails with `bad_regions` exactly if the write may
+-- read the regions and they aren't usable, and then nothing changes.
 abbrev pub WritesRegister : List Region → ℕ → ℕ → DeviceValue → ℤ → DeviceValue → Type 0
 WritesRegister regions at value d code e =
-    ((code ≡ bad_regions) × (are_usable regions ≡ false) × (e ≡ d))
-    ⊎ ((code ≡ ok_code) × (are_usable regions ≡ true) × (e ≡ written (pieces_of regions) at value d))
+    ((code ≡ bad_regions) × (needs_regions at ≡ true) × (are_usable regions ≡ false) × (e ≡ d))
+    ⊎ ((code ≡ ok_code) × (needs_regions at ≡ true → are_usable regions ≡ true)
+    × (e ≡ written (pieces_of regions) at value d))
 
 -- Writes the registers and counts that the thread of channel `n` of a device shows: those of the channel, or, after an
 -- instruction that failed, those from before it (`TurnShows`). Fails with `no_channel` exactly if the device doesn't
@@ -86,9 +91,9 @@ WritesRegisters n d code before after =
 
 -- ---- turns and lines
 
--- the number of the line irq_abort
-abbrev pub abort_line : DeviceValue → ℕ
-abort_line d = if irq_abort d then 1 else 0
+-- the lines irq[31:0], and the number of the line irq_abort
+abbrev pub lines_of : DeviceValue → ℕ × ℕ
+lines_of d = (irqs d, if irq_abort d then 1 else 0)
 
 -- 1 if any channel runs and, by its status, doesn't wait for an event whose flag is clear, else 0
 abbrev pub any_can_step : DeviceValue → ℕ
@@ -98,6 +103,7 @@ any_can_step d = if list_any (can_step (visible_events d)) d.threads then 1 else
 abbrev pub device_report : Turn → DeviceValue → DeviceTurn
 device_report turn e = record {
   written = turn.written;
+  taken = turn.taken;
   lines_changed = if turn.lines_changed then 1 else 0;
   can_step = any_can_step e;
 }
@@ -122,13 +128,10 @@ ReportsTurn n most =
 -- the report of several turns that left a device like this
 abbrev pub rows_report_of : RowTurns → DeviceValue → DeviceRows
 rows_report_of turns e = record {
-  written = turns.rows.first;
+  turn = device_report (record { written = turns.rows.first; taken = turns.taken; lines_changed = turns.lines_changed }) e;
   pitch = turns.rows.pitch;
   count = turns.rows.count;
   steps = turns.rows.steps;
-  lines_changed = if turns.lines_changed then 1 else 0;
-  can_step = any_can_step e;
-  taken = turns.taken;
 }
 
 -- Turns of channel `n` one after another, at least one, and just one if `most` is 0. Their number times the most steps
@@ -143,8 +146,8 @@ pub record TakesRows (n most : ℕ) (d : DeviceValue) (regions : List Region) (e
   pub one : most ≡ 0 → report.count ≡ 1
   pub moves : 0 < most → 0 < report.steps
   pub few : report.count * report.steps ≤ most
-  pub low : (k : ℕ) → k < report.count → report.written.addr + k * report.pitch < 2 ^ 32
-  pub taken : report.taken ≤ report.steps + 1
+  pub low : (k : ℕ) → k < report.count → report.turn.written.addr + k * report.pitch < 2 ^ 32
+  pub taken : report.turn.taken ≤ report.steps + 1
 
 -- A call from C that takes such turns.
 abbrev pub ReportsRows : ℕ → ℕ → Option DeviceValue → List Region → DeviceRows → ℤ
@@ -172,7 +175,7 @@ TurnsKeepTheRest =
 
 -- the range of row k of a report, from 0 on
 abbrev pub row_in : DeviceRows → ℕ → Segment
-row_in r k = range_at (r.written.addr + k * r.pitch) r.written.len
+row_in r k = range_at (r.turn.written.addr + k * r.pitch) r.turn.written.len
 
 -- A call from C that takes several turns, of a channel with any program: if it returns `ok_code`, one of the turns'
 -- steps wrote each address in the rows that it reports, each lies in a region, and in none that is read-only, and no
@@ -202,11 +205,11 @@ RowsKeepTheRest =
 abbrev pub FitsSave : DeviceValue → Type 0
 FitsSave d = (length (saved_device d) ≤ most_saved) × IsDeviceValue d
 
--- The bytes are the save of this device, which has this configuration, in this version or in version 1.
+-- The bytes are the save of this device, which has this configuration.
 pub record IsSaveOf (save : List ℕ) (g : Config) (d : DeviceValue) : Type 0 where
   pub value : IsDeviceValue d
   pub config : d.config ≡ g
-  pub bytes : IsSavedAs save d
+  pub bytes : save ≡ saved_device d
 
 -- the code of the answer to a restore
 abbrev pub restore_code : {A : Type 0} → Result A RestoreFault → ℤ

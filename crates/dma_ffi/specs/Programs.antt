@@ -33,7 +33,7 @@ where_fits bytes buffer number before = if has_room bytes buffer then number els
 
 -- the version's text, ended by a zero byte
 abbrev pub version_text : List ℕ
-version_text = codes "dilkwafam 1.6" ++ 0 ∷ []
+version_text = codes "dilkwafam 1.0" ++ 0 ∷ []
 
 -- ---- texts and programs
 

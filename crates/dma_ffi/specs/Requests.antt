@@ -8,7 +8,7 @@ use Rattle.dma_engine.specs.View.{View, EngineState, object_of, running, running
 use Rattle.dma_engine.specs.{declared.call.Reply.Reply, declared.fault.EngineFault.EngineFault, declared.turn.Advanced.Advanced, declared.turn.Running.Running}
 use Rattle.dma_engine.specs.{declared.turn.Turn.Turn, declared.turn.Turn.TheVariants.Started, declared.turn.Turn.TheVariants.Moved, Object.channel}
 use Rattle.dma_engine.specs.{Object.unfinished, Advance.IsAdvance, Advance.steps_before, History.kept_bytes, Answer.CallAnswers, Room.HasNoSpare}
-use Rattle.dma_ffi.specs.Codes.{ok_code, not_open, already_open, bad_kind, not_running, new_code, transfer_code, reply_code, mark_kind}
+use Rattle.dma_ffi.specs.Codes.{ok_code, not_open, already_open, bad_access, not_running, new_code, transfer_code, reply_code, mark_kind}
 use Rattle.dma_ffi.specs.{declared.steps.StepsTaken.StepsTaken, declared.reports.DmaConflict.DmaConflict, declared.reports.DmaOutcome.DmaOutcome}
 use Rattle.dma_ffi.specs.{declared.reports.DmaReport.DmaReport, Reports.conflict_of, Reports.outcome_of, Reports.report_of}
 use Rattle.dma_mem.specs.declared.transfer.TransferFault.TheVariants as transfers
@@ -138,7 +138,7 @@ abbrev pub code_of : Answer → ℤ
 code_of closed = not_open
 code_of (replied reply) = reply_code reply
 code_of (unfit fault) = transfer_code fault
-code_of no_kind = bad_kind
+code_of no_kind = bad_access
 code_of (known (runs None)) = not_running
 code_of _ = ok_code
 

@@ -11,7 +11,7 @@ ghost use Rattle.dma_ffi.specs.Codes.{event_of, mark_kind};
 ghost use Rattle.dma_ffi.specs.inner.Loads.{LoadsMade};
 
 use crate::codes::{
-    ALREADY_OPEN, BAD_KIND, BAD_RANGE, BAD_REGIONS, BAD_SAVE, BUFFER_TOO_SMALL, NO_MEMORY,
+    ALREADY_OPEN, BAD_ACCESS, BAD_RANGE, BAD_REGIONS, BAD_SAVE, BUFFER_TOO_SMALL, NO_MEMORY,
     NOT_OPEN, OK, PROGRAM_TOO_LONG, are_usable, code_of_transfer, event_of, found, kind_of,
 };
 use crate::kept_channel::KeptChannel;
@@ -39,7 +39,7 @@ pub struct ChannelRegisters {
     pub ccr: u32,
     pub lc0: u8,
     pub lc1: u8,
-    /// 1 if the channel has a program, else 0. The caller may pass any byte here.
+    /// 1 if the channel has a program, else 0.
     pub is_loaded: u8,
     /// The number of instructions executed since the load.
     pub taken: u32,
@@ -224,18 +224,22 @@ pub extern "C" fn dma330_channel_registers(
     OK
 }
 
-/// Marks a range: kind 0 for loads of this channel, 1 for stores. Fails for any other kind, for a range that is empty
-/// or ends above 2^32, or if out of memory.
+/// Marks a range: loads of this channel there (access 0), or stores (1), fail from then on. Fails for any other access,
+/// for a range that is empty or ends above 2^32, or if out of memory.
 #[unsafe(no_mangle)]
-pub extern "C" fn dma330_channel_mark(kept: &mut KeptChannel, kind: u32, range: Segment) -> i32
-    ensures { OnOpen (MarksRange (mark_kind kind) range) kept.old.channel.value result
+pub extern "C" fn dma330_channel_inject_error(
+    kept: &mut KeptChannel,
+    access: u32,
+    range: Segment,
+) -> i32
+    ensures { OnOpen (MarksRange (mark_kind access) range) kept.old.channel.value result
         kept.new.channel.value }
 {
     let Some(marked) = kept.get_mut() else {
         return NOT_OPEN;
     };
-    let Some(kind) = kind_of(kind) else {
-        return BAD_KIND;
+    let Some(kind) = kind_of(access) else {
+        return BAD_ACCESS;
     };
     if range.len == 0 || range.wraps() {
         return BAD_RANGE;
@@ -248,7 +252,7 @@ pub extern "C" fn dma330_channel_mark(kept: &mut KeptChannel, kind: u32, range: 
 
 /// Removes all marks of this channel.
 #[unsafe(no_mangle)]
-pub extern "C" fn dma330_channel_unmark(kept: &mut KeptChannel) -> i32
+pub extern "C" fn dma330_channel_uninject_errors(kept: &mut KeptChannel) -> i32
     ensures { Becomes unmarked kept.old.channel.value result kept.new.channel.value }
 {
     let Some(marked) = kept.get_mut() else {

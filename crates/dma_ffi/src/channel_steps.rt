@@ -3,7 +3,10 @@
 ghost use Rattle.std.specs.Prelude.{◌≡◌, Some};
 ghost use Rattle.dma_ffi.specs.Channels.{ReportsSteps, did, channel_report};
 
-use crate::codes::{BAD_REGIONS, NO_PROGRAM, NOT_OPEN, OK, are_usable, number_of_kind};
+use crate::codes::{
+    BAD_REGIONS, ENDED, FAULT, MOVED, NO_PROGRAM, NO_STEP, NOT_OPEN, OK, SIGNALLED, WAITING,
+    are_usable, number_of_kind,
+};
 use crate::kept_channel::KeptChannel;
 use dma_chan::lent::{Taken, step_regions};
 use dma_chan::turn::ChanTurn;
@@ -12,28 +15,15 @@ use dma_mem::events::Events;
 use dma_mem::regions::Region;
 use dma_mem::segment::Segment;
 
-// The turn of a report without a step.
-const NO_STEP: u32 = 0;
-// An instruction was executed.
-const MOVED: u32 = 1;
-// It waits for an event.
-const WAITING: u32 = 2;
-// It was DMAEND.
-const ENDED: u32 = 3;
-// It failed.
-const FAULT: u32 = 4;
-// It set a flag.
-const SIGNALLED: u32 = 5;
-
 /// The number of steps that were taken, and what the last one did.
 #[repr(C)]
 #[derive(Clone, Copy)]
 pub struct ChannelReport {
     /// The number of steps that were taken, including the last one.
     pub taken: u32,
-    /// The number of what the last one did, `NO_STEP` if none was taken. `event` and `fault` are 0 except for the turns
-    /// that they name.
-    pub turn: u32,
+    /// The number of what the last one did, `NO_STEP` if none was taken. `event` and `fault` are 0 except for what
+    /// they name.
+    pub last: u32,
     /// The event, for `WAITING` and `SIGNALLED`.
     pub event: u32,
     /// The number of the fault, for `FAULT`.
@@ -46,13 +36,14 @@ pub struct ChannelReport {
     pub written: Segment,
 }
 
-// Returns the report of `taken` steps with this offset, written range and turn number, and 0 as event and fault.
-fn did(taken: u32, pc: u32, written: Segment, turn: u32) -> ChannelReport
-    ensures { result ≡ did taken pc written turn }
+// Returns the report of `taken` steps with this offset and written range, the last of which did this, and 0 as event and
+// fault.
+fn did(taken: u32, pc: u32, written: Segment, last: u32) -> ChannelReport
+    ensures { result ≡ did taken pc written last }
 {
     ChannelReport {
         taken,
-        turn,
+        last,
         event: 0,
         fault: 0,
         pc,

@@ -24,76 +24,103 @@ pub const NOT_OPEN: i32 = -1;
 pub const ALREADY_OPEN: i32 = -2;
 /// Out of memory.
 pub const NO_MEMORY: i32 = -3;
-/// An event is above 31.
-pub const BAD_EVENT: i32 = -4;
-/// No kind of mark has this number.
-pub const BAD_KIND: i32 = -5;
-/// The cookie hasn't finished, was never given, or a checkpoint forgot how it finished.
-pub const NO_RESULT: i32 = -6;
-/// Nothing runs on the channel.
-pub const NOT_RUNNING: i32 = -7;
 /// The buffer is too small for what is to be written.
-pub const BUFFER_TOO_SMALL: i32 = -8;
-/// The channel has no program.
-pub const NO_PROGRAM: i32 = -9;
-/// A range or a segment ends above the memory's size.
-pub const OUT_OF_MEMORY_RANGE: i32 = -10;
-/// A running transfer conflicts.
-pub const BUSY: i32 = -11;
+pub const BUFFER_TOO_SMALL: i32 = -4;
 /// There is no such channel.
-pub const NO_CHANNEL: i32 = -12;
-/// The channel has used its last cookie.
-pub const COOKIES_SPENT: i32 = -13;
-/// The step count is at its end.
-pub const STEPS_SPENT: i32 = -14;
-/// A range is empty or ends above the last address.
-pub const BAD_RANGE: i32 = -15;
-/// A transfer runs.
-pub const RUNNING: i32 = -16;
-/// The number of channels is 0 or above 8.
-pub const BAD_CHANNELS: i32 = -20;
-/// A memory can't have this size.
-pub const SIZE_OUT_OF_RANGE: i32 = -21;
-/// There are more than 64 regions, they aren't in order, or one ends above 4,294,967,296.
-pub const BAD_REGIONS: i32 = -22;
-/// No device can have this configuration, or this bus.
-pub const BAD_CONFIG: i32 = -23;
-/// A list has no segment.
-pub const EMPTY_LIST: i32 = -30;
-/// A list has more than 64 segments.
-pub const TOO_MANY_SEGMENTS: i32 = -31;
-/// A segment is empty.
-pub const EMPTY_SEGMENT: i32 = -32;
-/// A segment ends above the last address.
-pub const SEGMENT_WRAPS: i32 = -33;
-/// The lists have different numbers of bytes.
-pub const TOTALS_DIFFER: i32 = -34;
-/// A list has more than 1,048,576 bytes.
-pub const TOO_LONG: i32 = -35;
-/// Two destination segments share an address.
-pub const DESTINATIONS_MEET: i32 = -36;
-/// A source and a destination segment share an address.
-pub const SOURCE_MEETS_DESTINATION: i32 = -37;
+pub const NO_CHANNEL: i32 = -5;
+/// The channel has no program.
+pub const NO_PROGRAM: i32 = -6;
 /// A program is longer than 8,192 bytes.
-pub const PROGRAM_TOO_LONG: i32 = -40;
+pub const PROGRAM_TOO_LONG: i32 = -7;
+/// The number of channels is 0 or above 8.
+pub const BAD_CHANNELS: i32 = -8;
+/// A memory can't have this size.
+pub const SIZE_OUT_OF_RANGE: i32 = -9;
+/// There are more than 64 regions, they aren't in order, or one ends above 4,294,967,296.
+pub const BAD_REGIONS: i32 = -10;
+/// No device can have this configuration or bus, or no program can begin so.
+pub const BAD_CONFIG: i32 = -11;
+/// An event is above 31.
+pub const BAD_EVENT: i32 = -12;
+/// No kind of access has this number.
+pub const BAD_ACCESS: i32 = -13;
+/// A range in which accesses are to fail is empty, or ends above the last address.
+pub const BAD_RANGE: i32 = -14;
+/// A range or a segment ends above the memory's size.
+pub const OUT_OF_MEMORY_RANGE: i32 = -15;
+/// A list has no segment.
+pub const EMPTY_LIST: i32 = -16;
+/// A list has more than 64 segments.
+pub const TOO_MANY_SEGMENTS: i32 = -17;
+/// A segment is empty.
+pub const EMPTY_SEGMENT: i32 = -18;
+/// A segment ends above the last address.
+pub const SEGMENT_WRAPS: i32 = -19;
+/// The lists have different numbers of bytes.
+pub const TOTALS_DIFFER: i32 = -20;
+/// A list has more than 1,048,576 bytes.
+pub const TOO_LONG: i32 = -21;
+/// Two destination segments share an address.
+pub const DESTINATIONS_MEET: i32 = -22;
+/// A source and a destination segment share an address.
+pub const SOURCE_MEETS_DESTINATION: i32 = -23;
+/// A running transfer conflicts.
+pub const BUSY: i32 = -24;
+/// A transfer runs.
+pub const RUNNING: i32 = -25;
+/// Nothing runs on the channel.
+pub const NOT_RUNNING: i32 = -26;
+/// The cookie hasn't finished, was never given, or a checkpoint forgot how it finished.
+pub const NO_RESULT: i32 = -27;
+/// The channel has used its last cookie.
+pub const COOKIES_SPENT: i32 = -28;
+/// The step count is at its end.
+pub const STEPS_SPENT: i32 = -29;
 /// The bytes aren't a save of a channel, or of any device.
-pub const BAD_SAVE: i32 = -42;
+pub const BAD_SAVE: i32 = -30;
 /// The save is of a device of another version or configuration.
-pub const OTHER_DEVICE: i32 = -43;
+pub const OTHER_DEVICE: i32 = -31;
 /// No instruction has this name.
-pub const BAD_MNEMONIC: i32 = -50;
+pub const BAD_MNEMONIC: i32 = -32;
 /// An operand is missing, of a wrong form, or one too many.
-pub const BAD_OPERAND: i32 = -51;
+pub const BAD_OPERAND: i32 = -33;
 /// A number in assembly text is outside its range.
-pub const NUMBER_OUT_OF_RANGE: i32 = -52;
+pub const NUMBER_OUT_OF_RANGE: i32 = -34;
 /// The bytes end within an instruction.
-pub const CUT_INSTRUCTION: i32 = -60;
+pub const CUT_INSTRUCTION: i32 = -35;
 /// No instruction begins with this byte.
-pub const UNKNOWN_INSTRUCTION: i32 = -61;
+pub const UNKNOWN_INSTRUCTION: i32 = -36;
 /// A field of an instruction is outside its range.
-pub const BAD_FIELD: i32 = -62;
+pub const BAD_FIELD: i32 = -37;
 /// The program isn't explained.
-pub const UNEXPLAINED: i32 = -70;
+pub const UNEXPLAINED: i32 = -38;
+
+// What the last of some steps did.
+
+/// None was taken.
+pub const NO_STEP: u32 = 0;
+/// An instruction was executed.
+pub const MOVED: u32 = 1;
+/// It waits for an event.
+pub const WAITING: u32 = 2;
+/// It was DMAEND.
+pub const ENDED: u32 = 3;
+/// It failed.
+pub const FAULT: u32 = 4;
+/// It set a flag.
+pub const SIGNALLED: u32 = 5;
+/// The next transfer began to run.
+pub const STARTED: u32 = 6;
+/// The transfer finished.
+pub const FINISHED: u32 = 7;
+/// No transfer is issued and unfinished.
+pub const NOTHING: u32 = 8;
+/// The next transfer conflicts with a running one.
+pub const HELD: u32 = 9;
+/// The channel is paused.
+pub const PAUSED: u32 = 10;
+/// The channel is halted.
+pub const HALTED: u32 = 11;
 
 /// Returns the code of a refused call.
 pub fn code_of_fault(fault: EngineFault) -> i32
@@ -221,11 +248,11 @@ pub fn number_of_kind(kind: FaultKind) -> u32
     }
 }
 
-/// Returns the kind of mark with this number, if any.
-pub fn kind_of(kind: u32) -> Option<MarkKind>
-    ensures { result ≡ mark_kind kind }
+/// Returns the kind of mark for accesses of this kind, if any: 0 for reads, 1 for writes.
+pub fn kind_of(access: u32) -> Option<MarkKind>
+    ensures { result ≡ mark_kind access }
 {
-    match kind {
+    match access {
         0 => Some(MarkKind::Reading),
         1 => Some(MarkKind::Writing),
         _ => None,

@@ -9,7 +9,7 @@ ghost use Rattle.dma_ffi.specs.Requests.{Opens, Returns, a_conflict, a_number, a
 ghost use Rattle.dma_ffi.specs.inner.Submits.{Submits};
 
 use crate::codes::{
-    ALREADY_OPEN, BAD_KIND, NO_MEMORY, NO_RESULT, NOT_OPEN, NOT_RUNNING, OK, answered, code_of_new,
+    ALREADY_OPEN, BAD_ACCESS, NO_MEMORY, NO_RESULT, NOT_OPEN, NOT_RUNNING, OK, answered, code_of_new,
     code_of_status, code_of_transfer, done, event_of, found, kind_of,
 };
 use crate::controller::Controller;
@@ -291,24 +291,29 @@ pub extern "C" fn dma330_forgotten(controller: &mut Controller, ch: u8, count: &
     OK
 }
 
-/// Marks a range: kind 0 for reading, 1 for writing. Fails for any other kind, or if the engine refuses the mark.
+/// Marks a range: bursts that read it (access 0) or write it (1) fail from then on. Fails for any other access, or if the
+/// engine refuses the mark.
 #[unsafe(no_mangle)]
-pub extern "C" fn dma330_mark(controller: &mut Controller, kind: u32, range: Segment) -> i32
-    ensures { Returns controller.old.engine.value (ask_mark kind range) result nothing
+pub extern "C" fn dma330_inject_error(
+    controller: &mut Controller,
+    access: u32,
+    range: Segment,
+) -> i32
+    ensures { Returns controller.old.engine.value (ask_mark access range) result nothing
         controller.new.engine.value }
 {
     let Some(engine) = controller.get_mut() else {
         return NOT_OPEN;
     };
-    match kind_of(kind) {
+    match kind_of(access) {
         Some(kind) => done(engine.mark(kind, range)),
-        None => BAD_KIND,
+        None => BAD_ACCESS,
     }
 }
 
 /// Removes all marks.
 #[unsafe(no_mangle)]
-pub extern "C" fn dma330_unmark(controller: &mut Controller) -> i32
+pub extern "C" fn dma330_uninject_errors(controller: &mut Controller) -> i32
     ensures { Returns controller.old.engine.value (ask_call Call.Unmark) result nothing
         controller.new.engine.value }
 {

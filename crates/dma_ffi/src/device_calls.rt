@@ -2,12 +2,11 @@
 //! the same duties as for a channel.
 
 ghost use Rattle.std.specs.Prelude.{◌≡◌, List, None};
-ghost use Rattle.dma_device.specs.Device.{irqs};
 ghost use Rattle.dma_device.specs.Snapshot.{saved_device};
 ghost use Rattle.dma_mem.specs.declared.regions.Region.{Region};
 ghost use Rattle.dma_ffi.specs.Calls.{ReadsOpen, WritesSave, WritesValue};
 ghost use Rattle.dma_ffi.specs.DeviceSessions.{Called, ask_look, ask_read, ask_reset, ask_restore, ask_turn, ask_write};
-ghost use Rattle.dma_ffi.specs.Devices.{FitsSave, Opens, WritesRegisters, abort_line, any_can_step, device_report, restore_code};
+ghost use Rattle.dma_ffi.specs.Devices.{FitsSave, Opens, WritesRegisters, any_can_step, device_report, lines_of, needs_regions, restore_code};
 
 use crate::channel_calls::{ChannelRegisters, registers_of};
 use crate::codes::{
@@ -18,6 +17,7 @@ use crate::device_config::{DeviceConfig, config_of};
 use crate::kept_device::KeptDevice;
 use dma_device::device::Device;
 use dma_device::device::turns::Turn;
+use dma_device::offset::DBGCMD;
 use dma_device::save::RestoreFault;
 use dma_mem::regions::Region;
 use dma_mem::segment::Segment;
@@ -30,6 +30,8 @@ pub struct DeviceTurn {
     /// The range that it wrote; its length is 0 if it wrote nothing. Each byte in it was written, and no other byte of
     /// the regions was.
     pub written: Segment,
+    /// How many steps it took, the last one included, whatever it did.
+    pub taken: u64,
     /// 1 if a line of irq[31:0], or irq_abort, has changed, else 0.
     pub lines_changed: u32,
     /// 1 if any channel runs and, by its status, doesn't wait for an event whose flag is clear, else 0.
@@ -99,8 +101,15 @@ pub extern "C" fn dma330_device_read(kept: &mut KeptDevice, offset: u32, value: 
     OK
 }
 
+// Returns whether a write to this offset may read the regions: only DBGCMD starts a program.
+fn needs_regions(offset: u32) -> bool
+    ensures { result ≡ needs_regions offset }
+{
+    offset == DBGCMD
+}
+
 /// Writes the register at this offset for the guest. An offset that has no register ignores writes. A DMAGO reads its
-/// program from the regions, which every call tests. Fails if they aren't usable.
+/// program from the regions, which a write to DBGCMD tests. Fails if they aren't usable then.
 #[unsafe(no_mangle)]
 pub extern "C" fn dma330_device_write(
     kept: &mut KeptDevice,
@@ -114,22 +123,22 @@ pub extern "C" fn dma330_device_write(
     let Some(device) = kept.get_mut() else {
         return NOT_OPEN;
     };
-    if are_usable(regions) {
-        device.write(offset, value, regions);
-        OK
-    } else {
-        BAD_REGIONS
+    if needs_regions(offset) && !are_usable(regions) {
+        return BAD_REGIONS;
     }
+    device.write(offset, value, regions);
+    OK
 }
 
 // ---- turns and lines
 
-// Returns the report of a turn that left the device like this.
-fn device_report(turn: Turn, device: &Device) -> DeviceTurn
+/// Returns the report of a turn that left the device like this.
+pub(crate) fn device_report(turn: Turn, device: &Device) -> DeviceTurn
     ensures { result ≡ device_report turn device.now }
 {
     DeviceTurn {
         written: turn.written,
+        taken: turn.taken,
         lines_changed: u32::from(turn.lines_changed),
         can_step: u32::from(device.can_step()),
     }
@@ -186,33 +195,23 @@ pub extern "C" fn dma330_device_registers(
     OK
 }
 
-/// Writes the lines irq[31:0].
+/// Writes the lines irq[31:0], and the line irq_abort: 1 if it is high, else 0.
 #[unsafe(no_mangle)]
-pub extern "C" fn dma330_device_irqs(kept: &mut KeptDevice, lines: &mut u32) -> i32
-    ensures answer { WritesValue irqs kept.old.device.value result lines.old lines.new
-        kept.new.device.value }
+pub extern "C" fn dma330_device_lines(
+    kept: &mut KeptDevice,
+    irqs: &mut u32,
+    irq_abort: &mut u32,
+) -> i32
+    ensures answer { WritesValue lines_of kept.old.device.value result (irqs.old, irq_abort.old)
+        (irqs.new, irq_abort.new) kept.new.device.value }
     ensures look { (lent : List Region) → Called ask_look result kept.old.device.value lent
         kept.new.device.value lent }
 {
     let Some(device) = kept.get_mut() else {
         return NOT_OPEN;
     };
-    *lines = device.irqs();
-    OK
-}
-
-/// Writes the line irq_abort: 1 if it is high, else 0.
-#[unsafe(no_mangle)]
-pub extern "C" fn dma330_device_irq_abort(kept: &mut KeptDevice, line: &mut u32) -> i32
-    ensures answer { WritesValue abort_line kept.old.device.value result line.old line.new
-        kept.new.device.value }
-    ensures look { (lent : List Region) → Called ask_look result kept.old.device.value lent
-        kept.new.device.value lent }
-{
-    let Some(device) = kept.get_mut() else {
-        return NOT_OPEN;
-    };
-    *line = u32::from(device.irq_abort());
+    *irqs = device.irqs();
+    *irq_abort = u32::from(device.irq_abort());
     OK
 }
 
@@ -258,8 +257,7 @@ fn code_of_restore(answer: Result<(), RestoreFault>) -> i32
     }
 }
 
-/// Restores the device from a save of this version or of version 1. Fails if the save is of a device of another version
-/// or configuration. Fails too if the bytes are the save of no device, and then the device is in its state after a
+/// Restores the device from a save. Fails if the save is of a device of another version or configuration. Fails too if the bytes are the save of no device, and then the device is in its state after a
 /// reset.
 #[unsafe(no_mangle)]
 pub extern "C" fn dma330_device_restore(kept: &mut KeptDevice, save: &[u8]) -> i32

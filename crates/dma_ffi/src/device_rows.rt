@@ -5,44 +5,42 @@ ghost use Rattle.dma_ffi.specs.DeviceSessions.{Called, ask_rows};
 ghost use Rattle.dma_ffi.specs.Devices.{rows_report_of};
 
 use crate::codes::{BAD_REGIONS, NOT_OPEN, OK, are_usable};
+use crate::device_calls::{DeviceTurn, device_report};
 use crate::kept_device::KeptDevice;
 use dma_device::device::Device;
 use dma_device::device::rows::RowTurns;
+use dma_device::device::turns::Turn;
 use dma_mem::regions::Region;
-use dma_mem::segment::Segment;
 
 /// What several turns of a device's channel did. No byte outside their ranges has changed.
 #[repr(C)]
 #[derive(Clone, Copy)]
 pub struct DeviceRows {
-    /// The range that the first turn wrote. Each byte in it was written.
-    pub written: Segment,
+    /// What the first turn wrote, how many steps each turn took, whether a line has changed in one of them, and whether
+    /// a channel can step after the last one.
+    pub turn: DeviceTurn,
     /// The distance from the beginning of each turn's range to that of the next.
     pub pitch: u32,
     /// The number of turns, at least 1.
     pub count: u32,
     /// Each turn is what `dma330_device_step` does with this `most`.
     pub steps: u32,
-    /// 1 if a line of irq[31:0], or irq_abort, has changed, else 0.
-    pub lines_changed: u32,
-    /// 1 if any channel runs and, by its status, doesn't wait for an event whose flag is clear, else 0.
-    pub can_step: u32,
-    /// How many steps each turn took, at most `steps` and one more.
-    pub taken: u64,
 }
 
 // Returns the report of turns that left the device like this.
 fn rows_report_of(turns: RowTurns, device: &Device) -> DeviceRows
     ensures { result ≡ rows_report_of turns device.now }
 {
-    DeviceRows {
+    let turn = Turn {
         written: turns.rows.first,
+        taken: turns.taken,
+        lines_changed: turns.lines_changed,
+    };
+    DeviceRows {
+        turn: device_report(turn, device),
         pitch: turns.rows.pitch,
         count: turns.rows.count,
         steps: turns.rows.steps,
-        lines_changed: u32::from(turns.lines_changed),
-        can_step: u32::from(device.can_step()),
-        taken: turns.taken,
     }
 }
 

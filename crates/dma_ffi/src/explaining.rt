@@ -1,9 +1,9 @@
-//! The calls that explain programs which copy, and set nothing to 0: one of the caller's, and the one that a device's
-//! channel has.
+//! The calls that explain programs, with what they copy and what their DMASTZ set to 0: one of the caller's, and the one
+//! that a device's channel has.
 
 ghost use Rattle.std.specs.Prelude.{◌≡◌, ◌≤◌, ◌++◌, length, drop, map};
 ghost use Rattle.dma_ffi.specs.Calls.{ReadsOpen};
-ghost use Rattle.dma_ffi.specs.Explaining.{ExplainsAny, ExplainsChannel, WritesCopy, WritesLists, any_bus, cause_number, explanation_of, happening_of, outputs, register_number, sync_numbers, unexplained_with, with_cause};
+ghost use Rattle.dma_ffi.specs.Explaining.{ExplainsChannel, ExplainsProgram, WritesLists, any_bus, cause_number, event_at, explanation_of, given_on, known_of, outputs, register_number, sync_numbers, unexplained_of};
 ghost use Rattle.dma_ffi.specs.inner.Found.{AnswersProgram, AnswersDevice};
 
 use crate::codes::{
@@ -12,39 +12,54 @@ use crate::codes::{
 };
 use crate::device_config::any_bus;
 use crate::kept_device::KeptDevice;
+use dma_chan::exec::Registers;
 use dma_device::device::explain::ExplainFault;
-use dma_explain::explain::known::{Given, Register};
+use dma_explain::explain::known::{Given, Known, Register};
 use dma_explain::explain::{
     Cause, EventSync, Explained, Happening, Repeated, Unexplained, explain_from,
 };
+use dma_insn::control::ControlWord;
 use dma_mem::segment::Segment;
 use std::alloc::Global;
+
+/// The registers with which a program begins, as far as they are known.
+#[repr(C)]
+#[derive(Clone, Copy)]
+pub struct DmaStart {
+    /// Which of the others are known: 1 for SAR, 2 for DAR, 4 for CCR, 8 for LC0 and 16 for LC1, added up.
+    pub known: u32,
+    pub sar: u32,
+    pub dar: u32,
+    pub ccr: u32,
+    pub lc0: u8,
+    pub lc1: u8,
+}
 
 /// A DMAWFE or DMASEV that a program executes.
 #[repr(C)]
 #[derive(Clone, Copy)]
-pub struct DmaHappening {
+pub struct DmaEvent {
     /// 0 if it waits, 1 if it signals.
     pub kind: u32,
     /// The event.
     pub event: u32,
-    /// The number of bytes that the program has stored before it.
-    pub stored: u64,
+    /// The numbers of bytes that the program has copied and set to 0 before it.
+    pub copied: u64,
+    pub cleared: u64,
 }
 
-/// The number of the cause of a program that sets bytes to 0, for which these calls have no list.
-const STORES_ZEROS: u32 = 16;
-
-/// What a program copies, or why and where no copy explains it.
+/// What a program does, or why and where nothing explains it.
 #[repr(C)]
 #[derive(Clone, Copy)]
 pub struct Explanation {
-    /// The numbers of sources, destinations and happenings; each is 0 if there is a cause.
+    /// The numbers of sources, destinations, ranges that are set to 0, and events; each is 0 if there is a cause.
     pub src_len: usize,
     pub dst_len: usize,
-    pub happenings_len: usize,
-    /// The number of bytes that are copied; 0 if there is a cause.
-    pub size: u64,
+    pub zeros_len: usize,
+    pub events_len: usize,
+    /// The numbers of bytes that are copied and set to 0; 0 if there is a cause.
+    pub copied: u64,
+    pub cleared: u64,
     /// The number of instructions that are executed, including DMAEND; for a cause, of those before the one that has
     /// it.
     pub steps: u32,
@@ -52,6 +67,52 @@ pub struct Explanation {
     pub pc: u32,
     /// 0, or the cause's number.
     pub cause: u32,
+    /// The lowest address that is stored twice, or loaded and stored, if that is the cause, else 0.
+    pub addr: u32,
+}
+
+// ---- what a program begins with
+
+// Returns the registers with these bits, from the lowest: SAR, DAR, CCR, LC0 and LC1.
+fn known_of(bits: u32) -> Known
+    ensures { result ≡ known_of bits }
+{
+    Known {
+        sar: bits % 2 == 1,
+        dar: bits / 2 % 2 == 1,
+        ccr: bits / 4 % 2 == 1,
+        lc0: bits / 8 % 2 == 1,
+        lc1: bits / 16 % 2 == 1,
+    }
+}
+
+// Returns the registers that C gives on a bus, and which of them are known, or `None` if no bus has this number, the
+// bits aren't those of registers, or the bus doesn't accept CCR.
+fn given_on(start: &DmaStart, bus: u32) -> Option<Given>
+    ensures { result ≡ given_on start.now (any_bus bus) }
+{
+    let bus = any_bus(bus)?;
+    if start.known > 31 {
+        return None;
+    }
+    let known = known_of(start.known);
+    let bits = if known.ccr { start.ccr } else { 0 };
+    let Ok(ccr) = ControlWord::from_bits(bits) else {
+        return None;
+    };
+    if !bus.fits(bits) {
+        return None;
+    }
+    let registers = Registers {
+        pc: 0,
+        sar: start.sar,
+        dar: start.dar,
+        ccr,
+        lc0: start.lc0,
+        lc1: start.lc1,
+        bus,
+    };
+    Some(Given { registers, known })
 }
 
 // ---- numbers
@@ -61,17 +122,17 @@ fn number_of_register(register: Register) -> u32
     ensures { result ≡ register_number register }
 {
     match register {
-        Register::Sar => 17,
-        Register::Dar => 18,
-        Register::Ccr => 19,
-        Register::Lc0 => 20,
-        Register::Lc1 => 21,
+        Register::Sar => 16,
+        Register::Dar => 17,
+        Register::Ccr => 18,
+        Register::Lc0 => 19,
+        Register::Lc1 => 20,
     }
 }
 
 // Returns the number of a cause; a fault's is the one that it has elsewhere. A program that is too long, and out of
 // memory, have codes and no number.
-pub(crate) fn number_of_cause(cause: Cause) -> u32
+fn number_of_cause(cause: Cause) -> u32
     ensures { result ≡ cause_number cause }
 {
     match cause {
@@ -90,7 +151,7 @@ pub(crate) fn number_of_cause(cause: Cause) -> u32
 }
 
 // Returns what an instruction does with an event, 0 for a wait and 1 for a signal, and the event.
-pub(crate) fn sync_numbers(sync: EventSync) -> (u32, u32)
+fn sync_numbers(sync: EventSync) -> (u32, u32)
     ensures { result ≡ sync_numbers sync }
 {
     let (kind, event) = match sync {
@@ -100,15 +161,16 @@ pub(crate) fn sync_numbers(sync: EventSync) -> (u32, u32)
     (kind, u32::from(event))
 }
 
-// Returns a happening as C sees it.
-fn happening_of(happening: Happening) -> DmaHappening
-    ensures { result ≡ happening_of happening }
+// Returns an instruction that waits or signals, as C sees it.
+fn event_at(happening: Happening) -> DmaEvent
+    ensures { result ≡ event_at happening }
 {
     let (kind, event) = sync_numbers(happening.sync);
-    DmaHappening {
+    DmaEvent {
         kind,
         event,
-        stored: happening.done.copied,
+        copied: happening.done.copied,
+        cleared: happening.done.cleared,
     }
 }
 
@@ -119,47 +181,53 @@ fn explanation_of(found: &Explained) -> Explanation
     Explanation {
         src_len: found.src.len(),
         dst_len: found.dst.len(),
-        happenings_len: found.events.len(),
-        size: found.size.copied,
+        zeros_len: found.zeros.len(),
+        events_len: found.events.len(),
+        copied: found.size.copied,
+        cleared: found.size.cleared,
         steps: found.steps,
         pc: 0,
         cause: 0,
+        addr: 0,
     }
 }
 
-// Returns the cause and the place of a program that no copy explains.
-fn unexplained_with(cause: u32, steps: u32, pc: u32) -> Explanation
-    ensures { result ≡ unexplained_with cause steps pc }
+// Returns the cause, the place and the address of a program that nothing explains.
+fn unexplained_of(why: Unexplained) -> Explanation
+    ensures { result ≡ unexplained_of why }
 {
     Explanation {
         src_len: 0,
         dst_len: 0,
-        happenings_len: 0,
-        size: 0,
-        steps,
-        pc,
-        cause,
+        zeros_len: 0,
+        events_len: 0,
+        copied: 0,
+        cleared: 0,
+        steps: why.steps,
+        pc: why.pc,
+        cause: number_of_cause(why.cause),
+        addr: why.addr,
     }
 }
 
 // ---- lists
 
 // Copies items to the front of a list that has room for them.
-pub(crate) fn copy_out<T: Copy>(items: &[T], out: &mut [T])
+fn copy_out<T: Copy>(items: &[T], out: &mut [T])
     requires { length items.now ≤ length out.old }
     ensures { out.new ≡ items.now ++ drop (length items.now) out.old }
 {
     out[..items.len()].copy_from_slice(items);
 }
 
-// Writes happenings to the front of a list that has room for them.
-fn happenings_out(happenings: &[Happening], out: &mut [DmaHappening])
+// Writes events to the front of a list that has room for them.
+fn events_out(happenings: &[Happening], out: &mut [DmaEvent])
     requires { length happenings.now ≤ length out.old }
-    ensures { out.new ≡ map happening_of happenings.now
+    ensures { out.new ≡ map event_at happenings.now
         ++ drop (length happenings.now) out.old }
 {
     for n in 0..happenings.len() {
-        out[n] = happening_of(happenings[n]);
+        out[n] = event_at(happenings[n]);
     }
 }
 
@@ -168,20 +236,27 @@ fn write_lists(
     found: &Explained,
     src: &mut [Repeated],
     dst: &mut [Segment],
-    happenings: &mut [DmaHappening],
+    zeros: &mut [Segment],
+    events: &mut [DmaEvent],
 ) -> i32
     ensures { WritesLists found.now result src.old src.new dst.old dst.new
-        happenings.old happenings.new }
+        zeros.old zeros.new events.old events.new }
 {
     let from = found.src.as_slice();
     let to = found.dst.as_slice();
-    let events = found.events.as_slice();
-    if from.len() > src.len() || to.len() > dst.len() || events.len() > happenings.len() {
+    let cleared = found.zeros.as_slice();
+    let happenings = found.events.as_slice();
+    if from.len() > src.len()
+        || to.len() > dst.len()
+        || cleared.len() > zeros.len()
+        || happenings.len() > events.len()
+    {
         return BUFFER_TOO_SMALL;
     }
     copy_out(from, src);
     copy_out(to, dst);
-    happenings_out(events, happenings);
+    copy_out(cleared, zeros);
+    events_out(happenings, events);
     OK
 }
 
@@ -190,27 +265,24 @@ fn answer(
     found: Result<Explained, Unexplained>,
     src: &mut [Repeated],
     dst: &mut [Segment],
-    happenings: &mut [DmaHappening],
+    zeros: &mut [Segment],
+    events: &mut [DmaEvent],
     explanation: &mut Explanation,
 ) -> i32
-    ensures { AnswersProgram WritesCopy with_cause found result
-        (outputs src.old dst.old happenings.old explanation.old)
-        (outputs src.new dst.new happenings.new explanation.new) }
+    ensures { AnswersProgram found result
+        (outputs src.old dst.old zeros.old events.old explanation.old)
+        (outputs src.new dst.new zeros.new events.new explanation.new) }
 {
     match found {
         Ok(found) => {
-            if !found.zeros.is_empty() {
-                *explanation = unexplained_with(STORES_ZEROS, 0, 0);
-                return UNEXPLAINED;
-            }
             *explanation = explanation_of(&found);
-            write_lists(&found, src, dst, happenings)
+            write_lists(&found, src, dst, zeros, events)
         }
         Err(why) => match why.cause {
             Cause::TooLong => PROGRAM_TOO_LONG,
             Cause::NoMemory => NO_MEMORY,
-            cause => {
-                *explanation = unexplained_with(number_of_cause(cause), why.steps, why.pc);
+            _ => {
+                *explanation = unexplained_of(why);
                 UNEXPLAINED
             }
         },
@@ -222,51 +294,56 @@ fn answer_device(
     found: Result<Explained, ExplainFault>,
     src: &mut [Repeated],
     dst: &mut [Segment],
-    happenings: &mut [DmaHappening],
+    zeros: &mut [Segment],
+    events: &mut [DmaEvent],
     explanation: &mut Explanation,
 ) -> i32
-    ensures { AnswersDevice WritesCopy with_cause found result
-        (outputs src.old dst.old happenings.old explanation.old)
-        (outputs src.new dst.new happenings.new explanation.new) }
+    ensures { AnswersDevice found result
+        (outputs src.old dst.old zeros.old events.old explanation.old)
+        (outputs src.new dst.new zeros.new events.new explanation.new) }
 {
     match found {
-        Ok(found) => answer(Ok(found), src, dst, happenings, explanation),
+        Ok(found) => answer(Ok(found), src, dst, zeros, events, explanation),
         Err(ExplainFault::NoChannel) => NO_CHANNEL,
         Err(ExplainFault::NoProgram) => NO_PROGRAM,
-        Err(ExplainFault::Unexplained(why)) => answer(Err(why), src, dst, happenings, explanation),
+        Err(ExplainFault::Unexplained(why)) => {
+            answer(Err(why), src, dst, zeros, events, explanation)
+        }
     }
 }
 
 // ---- calls
 
-/// Explains a program by one run without memory, for at most `most` instructions, on the ideal bus or a chip's, whatever
-/// the registers are with which it begins: an instruction that uses one before the program sets it is a cause, which
-/// has the register. Writes what it reads, what it writes and its happenings to the fronts of the lists, in
-/// the order of the run, and their numbers, the number of bytes and of instructions to `explanation`. If no copy
-/// explains the program, it returns `UNEXPLAINED`, and `explanation` has the cause and the place; a program
-/// that also sets bytes to 0 has a cause of its own, at offset 0. If a list is too small, no list changes, and
-/// `explanation` has the numbers. Fails too if no bus has this number, if the program is longer than 8,192 bytes, or if
-/// out of memory; then nothing is written.
+/// Explains a program by one run without memory, for at most `most` instructions, on the ideal bus or a chip's. It
+/// begins with those registers of `start` that are known, whatever the others are: an instruction that uses one of
+/// these before the program sets it is a cause, which has the register. Writes what it reads, what it writes, what it
+/// sets to 0 and its events to the fronts of the lists, in the order of the run, and their numbers, the numbers of bytes
+/// and of instructions to `explanation`. If nothing explains the program, it returns `UNEXPLAINED`, and `explanation`
+/// has the cause and the place. If a list is too small, no list changes, and `explanation` has the numbers. Fails too if
+/// no bus has this number, `known` has other bits, or the bus doesn't accept a known CCR, if the program is longer than
+/// 8,192 bytes, or if out of memory; then nothing is written.
 #[unsafe(no_mangle)]
 pub extern "C" fn dma330_explain(
     alloc: Global,
     program: &[u8],
     bus: u32,
+    start: &DmaStart,
     most: u32,
     src: &mut [Repeated],
     dst: &mut [Segment],
-    happenings: &mut [DmaHappening],
+    zeros: &mut [Segment],
+    events: &mut [DmaEvent],
     explanation: &mut Explanation,
 ) -> i32
-    ensures { ExplainsAny WritesCopy with_cause program.now (any_bus bus) most result
-        (outputs src.old dst.old happenings.old explanation.old)
-        (outputs src.new dst.new happenings.new explanation.new) }
+    ensures { ExplainsProgram program.now (given_on start.now (any_bus bus)) most result
+        (outputs src.old dst.old zeros.old events.old explanation.old)
+        (outputs src.new dst.new zeros.new events.new explanation.new) }
 {
-    let Some(bus) = any_bus(bus) else {
+    let Some(given) = given_on(start, bus) else {
         return BAD_CONFIG;
     };
-    let found = explain_from(alloc, Given::none(bus), program, most);
-    answer(found, src, dst, happenings, explanation)
+    let found = explain_from(alloc, given, program, most);
+    answer(found, src, dst, zeros, events, explanation)
 }
 
 /// Explains the program of a channel in the same way on the device's bus: from its first instruction on, with the
@@ -280,17 +357,18 @@ pub extern "C" fn dma330_device_explain(
     most: u32,
     src: &mut [Repeated],
     dst: &mut [Segment],
-    happenings: &mut [DmaHappening],
+    zeros: &mut [Segment],
+    events: &mut [DmaEvent],
     explanation: &mut Explanation,
 ) -> i32
-    ensures { ReadsOpen (ExplainsChannel WritesCopy with_cause channel most) kept.old.device.value result
-        (outputs src.old dst.old happenings.old explanation.old)
-        (outputs src.new dst.new happenings.new explanation.new)
+    ensures { ReadsOpen (ExplainsChannel channel most) kept.old.device.value result
+        (outputs src.old dst.old zeros.old events.old explanation.old)
+        (outputs src.new dst.new zeros.new events.new explanation.new)
         kept.new.device.value }
 {
     let Some(device) = kept.get_mut() else {
         return NOT_OPEN;
     };
     let found = device.explain(alloc, channel, most);
-    answer_device(found, src, dst, happenings, explanation)
+    answer_device(found, src, dst, zeros, events, explanation)
 }

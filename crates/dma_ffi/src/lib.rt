@@ -37,4 +37,3 @@ pub mod plans;
 pub mod programs;
 mod reports;
 mod steps;
-pub mod works;

@@ -15,7 +15,7 @@ use dma_mem::limits::MAX_SIZE;
 use std::alloc::Global;
 
 /// The version's text, ended by a zero byte.
-const VERSION: &[u8] = b"dilkwafam 1.6\0";
+const VERSION: &[u8] = b"dilkwafam 1.0\0";
 
 /// Copies bytes to the front of a buffer and writes their number, if the buffer has room. Returns the code.
 pub fn copy_out(bytes: &[u8], out: &mut [u8], len: &mut usize) -> i32

@@ -4,38 +4,22 @@ ghost use Rattle.std.specs.Prelude.{◌≡◌};
 ghost use Rattle.dma_ffi.specs.Codes.{answer_code};
 ghost use Rattle.dma_ffi.specs.Reports.{conflict_of, did, end_of, ended, outcome_of, report_of};
 
-use crate::codes::{done, number_of_kind, number_of_result};
+use crate::codes::{
+    FINISHED, HALTED, HELD, MOVED, NO_STEP, NOTHING, PAUSED, STARTED, WAITING, done, number_of_kind,
+    number_of_result,
+};
 use crate::steps::StepsTaken;
 use dma_chan::run::RunEnd;
 use dma_engine::{EngineFault, Outcome, Turn};
 
-// The turn of a report without a step.
-const NO_STEP: u32 = 0;
-// The next transfer began to run.
-const STARTED: u32 = 1;
-// An instruction was executed.
-const MOVED: u32 = 2;
-// No transfer is issued and unfinished.
-const NOTHING: u32 = 3;
-// The next transfer conflicts with a running one.
-const HELD: u32 = 4;
-// The transfer waits for an event.
-const WAITING: u32 = 5;
-// The channel is paused.
-const PAUSED: u32 = 6;
-// The channel is halted.
-const HALTED: u32 = 7;
-// The transfer finished.
-const FINISHED: u32 = 8;
-
-// The program ended by DMAEND.
+// The program hasn't ended after as many instructions as were allowed.
+const END_OUT_OF_STEPS: u32 = 0;
+// It ended by DMAEND.
 const END_ENDED: u32 = 1;
-// It was out of turns.
-const END_OUT_OF_TURNS: u32 = 2;
 // It waits for an event.
-const END_WAITING: u32 = 3;
+const END_WAITING: u32 = 2;
 // An instruction failed.
-const END_FAULT: u32 = 4;
+const END_FAULT: u32 = 3;
 
 /// How a cookie finished.
 #[repr(C)]
@@ -63,9 +47,9 @@ pub struct DmaConflict {
 pub struct DmaReport {
     /// The number of steps that were taken, including the last one.
     pub taken: u32,
-    /// The number of what the last one did, `NO_STEP` if none was taken. Each field below is 0 except for the turns
-    /// that it names.
-    pub turn: u32,
+    /// The number of what the last one did, `NO_STEP` if none was taken. Each field below is 0 except for what it
+    /// names.
+    pub last: u32,
     /// The channel of the conflicting transfer, for `HELD`.
     pub channel: u32,
     /// The cookie, for `STARTED`, `HELD` and `FINISHED`.
@@ -85,7 +69,7 @@ pub struct DmaRunEnd {
     /// The number of how it ended. Each field below is 0 except for the ends that it names.
     pub end: u32,
     /// The number of executed instructions, including DMAEND, for `END_ENDED`.
-    pub turns: u32,
+    pub steps: u32,
     /// The event, for `END_WAITING`.
     pub event: u32,
     /// The number of the fault, for `END_FAULT`.
@@ -118,13 +102,13 @@ pub fn done_unless(answer: Result<(), EngineFault>, conflict: &mut DmaConflict) 
     done(answer)
 }
 
-// Returns the report of `taken` steps with this turn number and 0 in all other fields.
-fn did(taken: u32, turn: u32) -> DmaReport
-    ensures { result ≡ did taken turn }
+// Returns the report of `taken` steps, the last of which did this, with 0 in all other fields.
+fn did(taken: u32, last: u32) -> DmaReport
+    ensures { result ≡ did taken last }
 {
     DmaReport {
         taken,
-        turn,
+        last,
         channel: 0,
         cookie: 0,
         event: 0,
@@ -178,7 +162,7 @@ fn ended(end: u32) -> DmaRunEnd
 {
     DmaRunEnd {
         end,
-        turns: 0,
+        steps: 0,
         event: 0,
         fault: 0,
         pc: 0,
@@ -190,11 +174,11 @@ pub fn end_of(how: RunEnd) -> DmaRunEnd
     ensures { result ≡ end_of how }
 {
     match how {
-        RunEnd::Ended { turns } => DmaRunEnd {
-            turns,
+        RunEnd::Ended { turns: steps } => DmaRunEnd {
+            steps,
             ..ended(END_ENDED)
         },
-        RunEnd::OutOfTurns => ended(END_OUT_OF_TURNS),
+        RunEnd::OutOfTurns => ended(END_OUT_OF_STEPS),
         RunEnd::Waiting(event) => DmaRunEnd {
             event: u32::from(event.number()),
             ..ended(END_WAITING)

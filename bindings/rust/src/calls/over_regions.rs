@@ -70,14 +70,14 @@ impl ChannelHandle {
         registers
     }
 
-    pub fn mark(&mut self, kind: u32, range: Segment) -> Result<(), Error> {
+    pub fn inject_error(&mut self, access: u32, range: Segment) -> Result<(), Error> {
         // SAFETY: Nobody else uses the channel.
-        checked(unsafe { dma330_channel_mark(self.raw.get_mut(), kind, range) }, ())
+        checked(unsafe { dma330_channel_inject_error(self.raw.get_mut(), access, range) }, ())
     }
 
-    pub fn unmark(&mut self) {
+    pub fn uninject_errors(&mut self) {
         // SAFETY: Nobody else uses the channel.
-        let code = unsafe { dma330_channel_unmark(self.raw.get_mut()) };
+        let code = unsafe { dma330_channel_uninject_errors(self.raw.get_mut()) };
         assert_eq!(code, OK);
     }
 
@@ -126,15 +126,6 @@ impl DeviceHandle {
         assert_eq!(code, OK);
     }
 
-    // Returns the number that a call writes.
-    fn number(&self, call: unsafe extern "C" fn(*mut RawDevice, *mut u32) -> i32) -> u32 {
-        let mut number = 0;
-        // SAFETY: `call` reads the device, which no other call uses, and writes `number`, a local.
-        let code = unsafe { call(self.raw.get(), &mut number) };
-        assert_eq!(code, OK);
-        number
-    }
-
     pub fn read(&self, offset: u32) -> u32 {
         let mut value = 0;
         // SAFETY: No other call uses the device, and `value` is a local.
@@ -172,33 +163,12 @@ impl DeviceHandle {
         checked(code, rows)
     }
 
-    pub fn explain(&self, channel: u8, most: u32) -> Result<RawExplained<RawExplanation>, Error> {
+    pub fn explain(&self, channel: u8, most: u32) -> Result<RawExplained, Error> {
         // SAFETY: No other call uses the device, and nobody else uses the lists or `explanation`. The lists come with
         // their lengths.
-        RawExplained::by(|src, dst, _, happenings, explanation| unsafe {
-            let raw = self.raw.get();
+        RawExplained::by(|src, dst, zeros, events, explanation| unsafe {
             dma330_device_explain(
-                raw,
-                channel,
-                most,
-                src.as_mut_ptr(),
-                src.len(),
-                dst.as_mut_ptr(),
-                dst.len(),
-                happenings.as_mut_ptr(),
-                happenings.len(),
-                explanation,
-            )
-        })
-    }
-
-    pub fn explain_work(&self, channel: u8, most: u32) -> Result<RawExplained<RawWork>, Error> {
-        // SAFETY: No other call uses the device, and nobody else uses the lists or `work`. The lists come with their
-        // lengths.
-        RawExplained::by(|src, dst, zeros, moments, work| unsafe {
-            let raw = self.raw.get();
-            dma330_device_explain_work(
-                raw,
+                self.raw.get(),
                 channel,
                 most,
                 src.as_mut_ptr(),
@@ -207,23 +177,28 @@ impl DeviceHandle {
                 dst.len(),
                 zeros.as_mut_ptr(),
                 zeros.len(),
-                moments.as_mut_ptr(),
-                moments.len(),
-                work,
+                events.as_mut_ptr(),
+                events.len(),
+                explanation,
             )
         })
     }
 
-    pub fn irqs(&self) -> u32 {
-        self.number(dma330_device_irqs)
-    }
-
-    pub fn irq_abort(&self) -> bool {
-        self.number(dma330_device_irq_abort) != 0
+    /// Returns the lines irq\[31:0\], and whether irq_abort is high.
+    pub fn lines(&self) -> (u32, bool) {
+        let (mut irqs, mut irq_abort) = (0, 0);
+        // SAFETY: No other call uses the device, and the numbers are locals.
+        let code = unsafe { dma330_device_lines(self.raw.get(), &mut irqs, &mut irq_abort) };
+        assert_eq!(code, OK);
+        (irqs, irq_abort != 0)
     }
 
     pub fn can_step(&self) -> bool {
-        self.number(dma330_device_can_step) != 0
+        let mut can_step = 0;
+        // SAFETY: No other call uses the device, and `can_step` is a local.
+        let code = unsafe { dma330_device_can_step(self.raw.get(), &mut can_step) };
+        assert_eq!(code, OK);
+        can_step != 0
     }
 
     /// Writes a save of the device, and returns its length; `None` if it doesn't fit.

@@ -34,54 +34,13 @@ pub fn disassemble(program: &[u8], out: &mut [u8]) -> Result<usize, Error> {
     }
 }
 
-/// What a call that explains a program writes besides its lists.
-pub trait Answer: Default {
-    /// The items of its last list.
-    type Happening: Clone + Default;
-
-    /// The room that its four lists have at first.
-    const ROOM: [usize; 4];
-
-    /// Returns the numbers of items of the lists.
-    fn lens(&self) -> [usize; 4];
-
-    /// Returns the cause, its offset, and the number of instructions before it.
-    fn why(&self) -> [u32; 3];
-}
-
-impl Answer for RawExplanation {
-    type Happening = RawHappening;
-    const ROOM: [usize; 4] = [256, 256, 0, 64];
-
-    fn lens(&self) -> [usize; 4] {
-        [self.src_len, self.dst_len, 0, self.happenings_len]
-    }
-
-    fn why(&self) -> [u32; 3] {
-        [self.cause, self.pc, self.steps]
-    }
-}
-
-impl Answer for RawWork {
-    type Happening = RawMoment;
-    const ROOM: [usize; 4] = [256, 256, 256, 64];
-
-    fn lens(&self) -> [usize; 4] {
-        [self.src_len, self.dst_len, self.zeros_len, self.moments_len]
-    }
-
-    fn why(&self) -> [u32; 3] {
-        [self.cause, self.pc, self.steps]
-    }
-}
-
-/// What a call that explains a program writes. Only those of `RawWork` write `zeros`.
-pub struct RawExplained<A: Answer> {
+/// What a call that explains a program writes.
+pub struct RawExplained {
     pub src: Vec<Repeated>,
     pub dst: Vec<Segment>,
     pub zeros: Vec<Segment>,
-    pub happenings: Vec<A::Happening>,
-    pub answer: A,
+    pub events: Vec<RawEvent>,
+    pub explanation: RawExplanation,
 }
 
 // Returns a list of this length, or `NoMemory`: a guest's program determines how long the lists of an explanation are.
@@ -92,59 +51,41 @@ fn list_of<T: Clone + Default>(len: usize) -> Result<Vec<T>, Error> {
     Ok(list)
 }
 
-impl<A: Answer> RawExplained<A> {
+impl RawExplained {
     // Makes a call with lists of some room. If that is too small, as it is for few programs, repeats it, and so the run
-    // of the program, with the room that the answer has.
+    // of the program, with the room that the explanation has.
     pub(super) fn by(
-        call: impl Fn(&mut [Repeated], &mut [Segment], &mut [Segment], &mut [A::Happening], &mut A) -> i32,
-    ) -> Result<RawExplained<A>, Error> {
-        let mut answer = A::default();
-        let mut room = A::ROOM;
+        call: impl Fn(&mut [Repeated], &mut [Segment], &mut [Segment], &mut [RawEvent], &mut RawExplanation) -> i32,
+    ) -> Result<RawExplained, Error> {
+        let mut explanation =
+            RawExplanation { src_len: 256, dst_len: 256, zeros_len: 256, events_len: 64, ..Default::default() };
         loop {
-            let mut src = list_of::<Repeated>(room[0])?;
-            let mut dst = list_of::<Segment>(room[1])?;
-            let mut zeros = list_of::<Segment>(room[2])?;
-            let mut happenings = list_of::<A::Happening>(room[3])?;
-            let code = call(&mut src, &mut dst, &mut zeros, &mut happenings, &mut answer);
-            room = answer.lens();
-            match code {
+            let mut src = list_of::<Repeated>(explanation.src_len)?;
+            let mut dst = list_of::<Segment>(explanation.dst_len)?;
+            let mut zeros = list_of::<Segment>(explanation.zeros_len)?;
+            let mut events = list_of::<RawEvent>(explanation.events_len)?;
+            match call(&mut src, &mut dst, &mut zeros, &mut events, &mut explanation) {
                 OK => {
-                    src.truncate(room[0]);
-                    dst.truncate(room[1]);
-                    zeros.truncate(room[2]);
-                    happenings.truncate(room[3]);
-                    return Ok(RawExplained { src, dst, zeros, happenings, answer });
+                    src.truncate(explanation.src_len);
+                    dst.truncate(explanation.dst_len);
+                    zeros.truncate(explanation.zeros_len);
+                    events.truncate(explanation.events_len);
+                    return Ok(RawExplained { src, dst, zeros, events, explanation });
                 }
                 BUFFER_TOO_SMALL => {}
-                code => return Err(Error::of_explanation(code, answer.why())),
+                code => {
+                    let RawExplanation { cause, pc, steps, .. } = explanation;
+                    return Err(Error::of_explanation(code, [cause, pc, steps]));
+                }
             }
         }
     }
 }
 
-pub fn explain(program: &[u8], bus: u32, most: u32) -> Result<RawExplained<RawExplanation>, Error> {
+pub fn explain(program: &[u8], bus: u32, start: &RawStart, most: u32) -> Result<RawExplained, Error> {
     // SAFETY: Nobody else uses the lists or `explanation`. Lists and program come with their lengths.
-    RawExplained::by(|src, dst, _, happenings, explanation| unsafe {
+    RawExplained::by(|src, dst, zeros, events, explanation| unsafe {
         dma330_explain(
-            program.as_ptr(),
-            program.len(),
-            bus,
-            most,
-            src.as_mut_ptr(),
-            src.len(),
-            dst.as_mut_ptr(),
-            dst.len(),
-            happenings.as_mut_ptr(),
-            happenings.len(),
-            explanation,
-        )
-    })
-}
-
-pub fn explain_work(program: &[u8], bus: u32, start: &RawRegisters, most: u32) -> Result<RawExplained<RawWork>, Error> {
-    // SAFETY: Nobody else uses the lists or `work`. Lists and program come with their lengths.
-    RawExplained::by(|src, dst, zeros, moments, work| unsafe {
-        dma330_explain_work(
             program.as_ptr(),
             program.len(),
             bus,
@@ -156,9 +97,9 @@ pub fn explain_work(program: &[u8], bus: u32, start: &RawRegisters, most: u32) -
             dst.len(),
             zeros.as_mut_ptr(),
             zeros.len(),
-            moments.as_mut_ptr(),
-            moments.len(),
-            work,
+            events.as_mut_ptr(),
+            events.len(),
+            explanation,
         )
     })
 }

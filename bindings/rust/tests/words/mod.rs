@@ -3,7 +3,7 @@
 // No test that includes this file uses all of it.
 #![allow(dead_code)]
 
-use dma330::{Bus, BusWidth, Error, Events, MarkKind, Segment};
+use dma330::{Access, Bus, BusWidth, Error, Events, Segment};
 use std::fmt::Debug;
 
 /// The words of a line that are not read yet.
@@ -43,11 +43,11 @@ impl<'a> Words<'a> {
         }
     }
 
-    pub fn kind(&mut self) -> MarkKind {
+    pub fn access(&mut self) -> Access {
         match self.next() {
-            "read" => MarkKind::Reading,
-            "write" => MarkKind::Writing,
-            word => panic!("no kind of mark: {word}"),
+            "read" => Access::Reads,
+            "write" => Access::Writes,
+            word => panic!("no kind of access: {word}"),
         }
     }
 

@@ -49,7 +49,7 @@ const MAX_REGIONS: usize = 64;
 /// written is lent as ROM. A channel that uses an address that isn't lent fails, as at a hole.
 ///
 /// ```
-/// use dma330::{assemble, Channel, ChannelTurn};
+/// use dma330::{assemble, Channel, ChannelStep};
 /// use dma330_vm_memory::LentMemory;
 /// use vm_memory::bitmap::{AtomicBitmap, Bitmap};
 /// use vm_memory::{Bytes, GuestAddress, GuestMemory, GuestMemoryMmap, GuestMemoryRegion};
@@ -63,7 +63,7 @@ const MAX_REGIONS: usize = 64;
 /// let mut lent = LentMemory::new(&memory)?;
 /// let mut channel = Channel::open()?;
 /// lent.load_from(&mut channel, 0x8000_0000);
-/// assert_eq!(lent.step_channel(&mut channel, &mut 0, 100)?.last, ChannelTurn::Ended);
+/// assert_eq!(lent.step_channel(&mut channel, &mut 0, 100)?.last, ChannelStep::Ended);
 ///
 /// assert_eq!(memory.read_obj::<[u8; 4]>(GuestAddress(0x8000_2200)).unwrap(), [1, 2, 3, 4]);
 /// let bitmap = memory.find_region(GuestAddress(0x8000_0000)).unwrap().bitmap();

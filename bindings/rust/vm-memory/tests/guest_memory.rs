@@ -1,7 +1,7 @@
 //! Tests of `LentMemory`: what it lends of a guest's memory, and what it marks as dirty. What devices and channels do
 //! with lent memory is tested by tests/c and by the crate `dma330`.
 
-use dma330::{assemble, BusWidth, Channel, ChannelTurn, Device, DeviceConfig, Error, Fault, Revision, Segment};
+use dma330::{assemble, BusWidth, Channel, ChannelStep, Device, DeviceConfig, Error, Fault, Revision, Segment};
 use dma330_vm_memory::LentMemory;
 use std::thread;
 use vm_memory::bitmap::{AtomicBitmap, Bitmap};
@@ -282,11 +282,11 @@ fn channels_run_over_guest_memory() {
     assert_eq!(lent.step_channel(&mut channel, &mut 0, 1).err(), Some(Error::NoProgram));
     lent.load_from(&mut channel, 0x1000);
     let steps = lent.step_channel(&mut channel, &mut 0, 100).expect("it has a program");
-    assert_eq!((steps.last, steps.written), (ChannelTurn::Ended, Segment::new(0x8400, 0x100)));
+    assert_eq!((steps.last, steps.written), (ChannelStep::Ended, Segment::new(0x8400, 0x100)));
     assert_eq!((get(&memory, 0x8400, 0x100), dirty_pages(&memory)), (bytes, vec![0x8000]));
     lent.load_from(&mut channel, 0x3000);
     let steps = lent.step_channel(&mut channel, &mut 0, 100).expect("it has a program");
-    assert_eq!(steps.last, ChannelTurn::Fault { fault: Fault::InstrFetchErr });
+    assert_eq!(steps.last, ChannelStep::Fault { fault: Fault::InstrFetchErr });
 }
 
 #[test]

@@ -2,10 +2,10 @@
 
 ghost use Rattle.std.specs.Prelude.{◌≡◌, ◌↔◌, ◌+◌, ◌≤◌, ◌++◌, true, Err, IfSome, IsNone, IsOk, IsTrue, OnOk, drop, is_some, length, nat_le};
 ghost use Rattle.dma_device.specs.Device.{DeviceValue, reset_device};
-ghost use Rattle.dma_device.specs.Snapshot.{IsDeviceValue, IsOfOther, IsSavedAs, head_of, most_saved, parts_in, saved_device};
+ghost use Rattle.dma_device.specs.Snapshot.{IsDeviceValue, IsOfOther, device_parts, head_of, most_saved, saved_device};
 
 use crate::device::Device;
-use crate::save::head::{Head, OLD_VERSION, VERSION, VERSION_AT, is_of_other};
+use crate::save::head::{Head, is_of_other};
 use crate::save::threads::{restore_threads, save_threads, threads_len};
 use crate::save::{HEAD_LEN, RestoreFault, SUM_LEN, is_sealed, seal};
 
@@ -33,7 +33,7 @@ impl Device {
     // Returns the length of the device's save without its checksum.
     #[tactic(auto, using(crate::proofs::SavedDevices::device_length, crate::proofs::Sound::few_channels))]
     fn parts_len(&self) -> usize
-        ensures len { result ≡ length (parts_in 2 self.now) }
+        ensures len { result ≡ length (device_parts self.now) }
         ensures head { 40 ≤ result }
         ensures limit { result + 4 ≤ most_saved }
         ensures device { IsDeviceValue self.now }
@@ -45,9 +45,9 @@ impl Device {
 
     // Writes the device's save without its checksum to the front of `out`. There must be room for it.
     fn write_parts(&self, out: &mut [u8])
-        requires room { length (parts_in 2 self.now) ≤ length out.old }
+        requires room { length (device_parts self.now) ≤ length out.old }
         requires head { 40 ≤ length out.old }
-        ensures { out.new ≡ parts_in 2 self.now ++ drop (length (parts_in 2 self.now)) out.old }
+        ensures { out.new ≡ device_parts self.now ++ drop (length (device_parts self.now)) out.old }
     {
         let head = self.head().bytes();
         save_threads(&self.threads, &mut out[HEAD_LEN..]);
@@ -59,15 +59,15 @@ impl Device {
     /// The error is `OtherDevice` for bytes that begin as the save of a device of another version or configuration, and
     /// then nothing changes. It is `BadSave` if the bytes aren't the save of any device, and then the device is in its
     /// state after a reset.
-    #[tactic(auto, using(crate::proofs::SavedDevices::old_identity, crate::proofs::SavedDevices::own_identity))]
+    #[tactic(auto, using(crate::proofs::SavedDevices::own_identity))]
     pub fn restore(&mut self, save: &[u8]) -> Result<(), RestoreFault>
         // The bytes are the save of the restored device, which satisfies what every device does.
-        ensures ok { OnOk result (IsSavedAs save.now self.new) }
+        ensures ok { OnOk result (save.now ≡ saved_device self.new) }
         ensures value { OnOk result (IsDeviceValue self.new) }
         ensures config { self.new.config ≡ self.old.config }
         // The save of any device of this configuration restores that device.
         ensures all { (d : DeviceValue) → IsDeviceValue d → d.config ≡ self.old.config
-            → IsSavedAs save.now d → IsOk result × (self.new ≡ d) }
+            → save.now ≡ saved_device d → IsOk result × (self.new ≡ d) }
         ensures cause { (result ≡ Err RestoreFault.OtherDevice)
             ↔ IsOfOther self.old.config save.now }
         ensures other { result ≡ Err RestoreFault.OtherDevice → self.new ≡ self.old }
@@ -87,31 +87,28 @@ impl Device {
     // Replaces the device with the saved one, and returns whether the bytes are the save of a device of its
     // configuration. If not, its threads may have changed.
     fn restore_save(&mut self, save: &[u8]) -> bool
-        ensures ok { IsTrue result → IsSavedAs save.now self.new }
+        ensures ok { IsTrue result → save.now ≡ saved_device self.new }
         ensures value { IsTrue result → IsDeviceValue self.new }
         ensures config { self.new.config ≡ self.old.config }
         ensures all { (d : DeviceValue) → IsDeviceValue d → d.config ≡ self.old.config
-            → IsSavedAs save.now d → (result ≡ true) × (self.new ≡ d) }
+            → save.now ≡ saved_device d → (result ≡ true) × (self.new ≡ d) }
     {
         if save.len() < HEAD_LEN {
             return false;
         }
-        if save[VERSION_AT] == OLD_VERSION {
-            return self.restore_parts(OLD_VERSION, save);
-        }
-        is_sealed(save) && self.restore_parts(VERSION, &save[..save.len() - SUM_LEN])
+        is_sealed(save) && self.restore_parts(&save[..save.len() - SUM_LEN])
     }
 
     // Replaces the device with the one of these parts, and returns whether they are those of a device of its
-    // configuration in this version. If not, its threads may have changed.
-    fn restore_parts(&mut self, version: u8, save: &[u8]) -> bool
-        ensures ok { IsTrue result → save.now ≡ parts_in version self.new }
+    // configuration. If not, its threads may have changed.
+    fn restore_parts(&mut self, save: &[u8]) -> bool
+        ensures ok { IsTrue result → save.now ≡ device_parts self.new }
         ensures value { IsTrue result → IsDeviceValue self.new }
         ensures config { self.new.config ≡ self.old.config }
         ensures all { (d : DeviceValue) → IsDeviceValue d → d.config ≡ self.old.config
-            → save.now ≡ parts_in version d → (result ≡ true) × (self.new ≡ d) }
+            → save.now ≡ device_parts d → (result ≡ true) × (self.new ≡ d) }
     {
-        let Some(head) = Head::of_save(version, self.config, save) else {
+        let Some(head) = Head::of_save(self.config, save) else {
             return false;
         };
         let config = self.config;
@@ -132,7 +129,6 @@ impl Device {
         ensures { result ≡ head_of self.now }
     {
         Head {
-            version: VERSION,
             config: self.config,
             manager: self.manager,
             events: self.events,

@@ -16,18 +16,11 @@ use arrayvec::ArrayVec;
 const MAGIC: [u8; 7] = [100, 109, 97, 51, 51, 48, 1];
 
 // The version of the format.
-pub(crate) const VERSION: u8 = 2;
-
-// The version of saves without a checksum of their own.
-pub(crate) const OLD_VERSION: u8 = 1;
-
-// The length in bytes of what is before the threads' configuration: the magic.
-pub(crate) const VERSION_AT: usize = 7;
+const VERSION: u8 = 1;
 
 /// What a save has before its threads.
 #[derive(Clone, Copy)]
 pub struct Head {
-    pub version: u8,
     pub config: Config,
     pub manager: Manager,
     pub events: u32,
@@ -44,13 +37,13 @@ fn flag_of(value: bool) -> u8
     if value { 1 } else { 0 }
 }
 
-// Returns a version and a configuration, as bytes.
-fn identity(version: u8, config: Config) -> [u8; 8]
-    ensures { result ≡ identity version config }
+// Returns the version and a configuration, as bytes.
+fn identity(config: Config) -> [u8; 8]
+    ensures { result ≡ identity config }
 {
     let lines = config.lines.to_le_bytes();
     [
-        version,
+        VERSION,
         config.channels,
         config.events,
         flag_of(config.nonsecure),
@@ -61,12 +54,12 @@ fn identity(version: u8, config: Config) -> [u8; 8]
     ]
 }
 
-// Returns whether this version and configuration are at their place.
-fn has_identity(bytes: &[u8], version: u8, config: Config) -> bool
+// Returns whether the version and this configuration are at their place.
+fn has_identity(bytes: &[u8], config: Config) -> bool
     requires { 15 ≤ length bytes.now }
-    ensures { IsTrue result ↔ (take 8 (drop 7 bytes.now) ≡ identity version config) }
+    ensures { IsTrue result ↔ (take 8 (drop 7 bytes.now) ≡ identity config) }
 {
-    let own = identity(version, config);
+    let own = identity(config);
     bytes[7..15] == own[..]
 }
 
@@ -74,10 +67,7 @@ fn has_identity(bytes: &[u8], version: u8, config: Config) -> bool
 pub(crate) fn is_of_other(bytes: &[u8], config: Config) -> bool
     ensures { IsTrue result ↔ IsOfOther config bytes.now }
 {
-    bytes.len() >= 15
-        && bytes[..7] == MAGIC[..]
-        && !has_identity(bytes, VERSION, config)
-        && !has_identity(bytes, OLD_VERSION, config)
+    bytes.len() >= 15 && bytes[..7] == MAGIC[..] && !has_identity(bytes, config)
 }
 
 // Returns whether a word has bits only for events that the device has.
@@ -98,7 +88,7 @@ impl Head {
     {
         let mut out = ArrayVec::new();
         push(&mut out, &MAGIC);
-        push(&mut out, &identity(self.version, self.config));
+        push(&mut out, &identity(self.config));
         push(&mut out, &[flag_of(self.manager.is_faulting)]);
         push(&mut out, &self.manager.fault.to_le_bytes());
         push(&mut out, &self.events.to_le_bytes());
@@ -109,17 +99,15 @@ impl Head {
         out
     }
 
-    // Returns the head of these bytes if they are the save of a device of this configuration in this version. For other
-    // bytes it is another head.
-    fn read(version: u8, config: Config, bytes: &[u8]) -> Head
+    // Returns the head of these bytes if they are the save of a device of this configuration. For other bytes it is
+    // another head.
+    fn read(config: Config, bytes: &[u8]) -> Head
         requires { 40 ≤ length bytes.now }
-        ensures version { result.version ≡ version }
         ensures config { result.config ≡ config }
-        ensures same { (h : Head) (rest : List ℕ) → HasHeadRanges h → h.version ≡ version
-            → h.config ≡ config → bytes.now ≡ head_bytes h ++ rest → result ≡ h }
+        ensures same { (h : Head) (rest : List ℕ) → HasHeadRanges h → h.config ≡ config
+            → bytes.now ≡ head_bytes h ++ rest → result ≡ h }
     {
         Head {
-            version,
             config,
             manager: Manager {
                 is_faulting: bytes[15] != 0,
@@ -143,24 +131,23 @@ impl Head {
             && is_known(self.inten, self.config)
     }
 
-    // Returns the head with which these bytes begin, if it is that of a device of this configuration in this version.
-    // They begin with such a head exactly if writing what was read gives them again.
-    pub fn of_save(version: u8, config: Config, bytes: &[u8]) -> Option<Head>
+    // Returns the head with which these bytes begin, if it is that of a device of this configuration. They begin with
+    // such a head exactly if writing what was read gives them again.
+    pub fn of_save(config: Config, bytes: &[u8]) -> Option<Head>
         requires { config.events ≤ 32 }
         ensures long { IfSome result (λ h. 40 ≤ length bytes.now) }
         ensures found { IfSome result (λ h. take 40 bytes.now ≡ head_bytes h) }
-        ensures version { IfSome result (λ h. h.version ≡ version) }
         ensures config { IfSome result (λ h. h.config ≡ config) }
         ensures known { IfSome result (λ h. HasKnownEvents h) }
         ensures ranges { IfSome result (λ h. HasHeadRanges h) }
         ensures only { (h : Head) (rest : List ℕ)
-            → HasHeadRanges h → HasKnownEvents h → h.version ≡ version → h.config ≡ config
+            → HasHeadRanges h → HasKnownEvents h → h.config ≡ config
             → bytes.now ≡ head_bytes h ++ rest → result ≡ Some h }
     {
         if bytes.len() < HEAD_LEN {
             return None;
         }
-        let head = Head::read(version, config, bytes);
+        let head = Head::read(config, bytes);
         if !head.has_known_events() {
             return None;
         }

@@ -1,10 +1,10 @@
 use Rattle.std.proofs.Common.{◌≡◌, ◌∙◌, List, ap, arith, drop, length, refl, subst, sym, true≢false, true}
 use Rattle.std.proofs.lemmas.List.{take-append-drop, with_items_is}
 use Rattle.std.specs.{List.All, List.flat_map}
-use Rattle.dma_device.specs.Snapshot.{HasKnownEvents, IsDeviceValue, head_in, parts_in, saved_thread}
+use Rattle.dma_device.specs.Snapshot.{HasKnownEvents, IsDeviceValue, device_parts, head_of, saved_thread}
 use Rattle.dma_device.specs.{Device.DeviceValue, Thread.IsOn, declared.config.Config.Config, declared.save.head.Head.Head}
 use Rattle.dma_device.specs.{declared.thread.Thread.Thread}
-use Rattle.dma_device.proofs.SavedDevices.{tail_is, device_ranges_in, device_value_is, from_head, known_in, threads_behind}
+use Rattle.dma_device.proofs.SavedDevices.{tail_is, device_ranges, device_value_is, from_head, known_of, threads_behind}
 use Rattle.dma_device.proofs.{Sound.are_on, Sound.on_of, Sound.with_parts, device.Device.restore_parts.Goals.After-restore_threads}
 use Rattle.dma_device.proofs.device.Device.restore_parts.Goals as goal
 
@@ -13,11 +13,11 @@ known_on : (h : Head) (g : Config) → h.config ≡ g → HasKnownEvents h → H
 known_on h g same known = subst (λ (f : Config). HasKnownEvents (record h { config = f })) same known
 
 pub returns-in_default-clause-all : goal.returns-in_default-clause-all
-unfolding parts_in
+unfolding device_parts
 returns-in_default-clause-all c d v config e =
     let same = config ∙ sym (ap (λ (x : DeviceValue). x.config) c.self.view_is) in
-    let found = c.in_default.ensures.only (head_in c.args.version d) (flat_map saved_thread d.threads) (device_ranges_in c.args.version d v)
-    (known_in c.args.version d v) refl same e in
+    let found = c.in_default.ensures.only (head_of d) (flat_map saved_thread d.threads) (device_ranges d v)
+    (known_of d v) same e in
     absurd (cc found)
 
 pub restore_threads-requires-clause-on : goal.restore_threads-requires-clause-on
@@ -38,7 +38,7 @@ invariant_of-self c =
     (are_on d.config.bus new c.restore_threads.ensures.on) c.self.invariant.sound.known
 
 -- the threads of the device whose parts these are
-restored : (c : After-restore_threads) (d : DeviceValue) → IsDeviceValue d → d.config ≡ c.args.self.now.config → c.args.save.now ≡ parts_in c.args.version d
+restored : (c : After-restore_threads) (d : DeviceValue) → IsDeviceValue d → d.config ≡ c.args.self.now.config → c.args.save.now ≡ device_parts d
     → (c.restore_threads.result ≡ true) × (c.restore_threads.new.threads ≡ d.threads)
 restored c d v config e = grind (arith, threads_behind)
 
@@ -58,7 +58,7 @@ invariant_of-self-2 c =
     (record { events = known.events; interrupts = known.interrupts; inten = known.inten })
 
 pub returns-clause-ok : goal.returns-clause-ok
-unfolding parts_in
+unfolding device_parts
 returns-clause-ok c =
     λ _. (let d = c.self.inside in
     let save = c.args.save.now in
@@ -67,10 +67,10 @@ returns-clause-ok c =
     let len : length new ≡ d.threads.len = omega (arith, c.restore_threads.auto.threads, c.deref_mut.ensures.len) in
     let back : drop 40 save ≡ flat_map saved_thread new = sym (tail_is 40 save) ∙ c.restore_threads.ensures.ok c.if-not-restore_threads.false in
     sym (take-append-drop 40 save)
-    ∙ simp (c.in-Some.ensures.found, back, sym c.in-Some.ensures.config, sym c.in-Some.ensures.version, with_items_is d.threads new len))
+    ∙ simp (c.in-Some.ensures.found, back, sym c.in-Some.ensures.config, with_items_is d.threads new len))
 
 pub returns-clause-all : goal.returns-clause-all
-unfolding parts_in
+unfolding device_parts
 returns-clause-all c e v config is =
     let d = c.self.inside in
     let save = c.args.save.now in
@@ -78,14 +78,14 @@ returns-clause-all c e v config is =
     let new = c.restore_threads.new.threads in
     let len : length new ≡ d.threads.len = omega (arith, c.restore_threads.auto.threads, c.deref_mut.ensures.len) in
     let same = config ∙ sym (ap (λ (x : DeviceValue). x.config) c.self.view_is) in
-    let found = c.in-Some.ensures.only (head_in c.args.version e) (flat_map saved_thread e.threads) (device_ranges_in c.args.version e v)
-    (known_in c.args.version e v) refl same is in
-    let head : h ≡ head_in c.args.version e = cc found in
+    let found = c.in-Some.ensures.only (head_of e) (flat_map saved_thread e.threads) (device_ranges e v)
+    (known_of e v) same is in
+    let head : h ≡ head_of e = cc found in
     let w = restored (goal.at.returns-clause-all c).After-restore_threads e v config is in (
       refl,
       ap (λ (ts : List Thread). from_head d.config h ts) (with_items_is d.threads new len ∙ w.1)
           ∙ ap (λ (k : Head). from_head d.config k e.threads) head
-          ∙ ap (λ (g : Config). from_head g (head_in c.args.version e) e.threads) (sym same),
+          ∙ ap (λ (g : Config). from_head g (head_of e) e.threads) (sym same),
     )
 
 pub returns-clause-value : goal.returns-clause-value

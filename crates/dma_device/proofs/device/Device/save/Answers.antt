@@ -1,13 +1,13 @@
 use Rattle.std.proofs.Common.{◌≡◌, ◌∙◌, ◌+◌, ◌++◌, ap, drop, length, sym, take}
 use Rattle.std.proofs.{lemmas.List.drop-drop, lemmas.List.drop_at, lemmas.List.take_at}
-use Rattle.dma_device.specs.Snapshot.{parts_in, saved_device}
+use Rattle.dma_device.specs.Snapshot.{device_parts, saved_device}
 use Rattle.dma_device.proofs.device.Device.save.Goals as goal
 
 pub returns-clause-bytes : goal.returns-clause-bytes
 unfolding saved_device
 returns-clause-bytes c =
     let out = c.args.out.now in
-    let parts = parts_in 2 c.args.self.now in
+    let parts = device_parts c.args.self.now in
     let len = c.parts_len-len.result in
     let rest = drop (length parts) out in
     let is : c.write_parts.new.out ≡ parts ++ rest = c.write_parts.ensures in

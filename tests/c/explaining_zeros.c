@@ -1,5 +1,5 @@
-/* Tests dma330_explain_work and dma330_device_explain_work: programs with DMASTZ, and programs that begin with given
- * registers. What each row expects is worked out by hand from the manual of the DMA-330. Link it with heap.h's flags. */
+/* Tests dma330_explain and dma330_device_explain: programs with DMASTZ, and programs that begin with known registers. What each
+ * row expects is worked out by hand from the manual of the DMA-330. Link it with heap.h's flags. */
 #include "guest.h"
 
 #include <stdio.h>
@@ -12,12 +12,12 @@ typedef struct outputs {
     dma330_repeated src[ROOM];
     dma330_segment dst[ROOM];
     dma330_segment zeros[ROOM];
-    dma330_moment moments[ROOM];
-    dma330_work work;
+    dma330_event events[ROOM];
+    dma330_explanation explanation;
 } outputs;
 
 static outputs out, unwritten;
-static const dma330_registers nothing = {0, 0, 0, 0, 0, 0, 0, 0, 0};
+static const dma330_start nothing = {DMA330_KNOWN_ALL, 0, 0, 0, 0, 0}, any = DMA330_ANY_REGISTERS;
 
 static void forget(void)
 {
@@ -33,27 +33,27 @@ static bool is_unwritten(void)
 
 static bool are_lists_unwritten(void)
 {
-    return memcmp(&out, &unwritten, offsetof(outputs, work)) == 0;
+    return memcmp(&out, &unwritten, offsetof(outputs, explanation)) == 0;
 }
 
-static int32_t explain_from(const uint8_t *program, size_t len, uint32_t bus, const dma330_registers *start, uint32_t most)
+static int32_t explain_from(const uint8_t *program, size_t len, uint32_t bus, const dma330_start *start, uint32_t most)
 {
     forget();
-    return dma330_explain_work(program, len, bus, start, most, out.src, ROOM, out.dst, ROOM, out.zeros, ROOM, out.moments,
-                               ROOM, &out.work);
+    return dma330_explain(program, len, bus, start, most, out.src, ROOM, out.dst, ROOM, out.zeros, ROOM, out.events,
+                          ROOM, &out.explanation);
 }
 
-static bool has_counts(size_t src, size_t dst, size_t zeros, size_t moments, uint64_t copied, uint64_t cleared)
+static bool has_counts(size_t src, size_t dst, size_t zeros, size_t events, uint64_t copied, uint64_t cleared)
 {
-    const dma330_work *w = &out.work;
+    const dma330_explanation *w = &out.explanation;
 
-    return w->src_len == src && w->dst_len == dst && w->zeros_len == zeros && w->moments_len == moments &&
+    return w->src_len == src && w->dst_len == dst && w->zeros_len == zeros && w->events_len == events &&
            w->copied == copied && w->cleared == cleared;
 }
 
 static bool has_cause(uint32_t cause, uint32_t pc, uint32_t steps, uint32_t addr)
 {
-    const dma330_work *w = &out.work;
+    const dma330_explanation *w = &out.explanation;
 
     return has_counts(0, 0, 0, 0, 0, 0) && w->cause == cause && w->pc == pc && w->steps == steps && w->addr == addr &&
            are_lists_unwritten();
@@ -82,13 +82,13 @@ static bool is_segment(dma330_segment s, uint32_t addr, uint32_t len)
 
 enum { PARTS = 3 };
 
-/* Programs, the bus, and what they do: what is read, stored and set to 0, the moments, all bytes, and the instructions. */
+/* Programs, the bus, and what they do: what is read, stored and set to 0, the events, all bytes, and the instructions. */
 static const struct {
     const char *what;
     uint8_t program[52];
     uint32_t bus;
     dma330_segment src, dst, zeros[PARTS];
-    dma330_moment moments[PARTS];
+    dma330_event events[PARTS];
     uint32_t copied, cleared, steps;
 } rows[] = {
     {"32 bursts of 128 bytes and 3 single beats, as a boot loader clears memory",
@@ -157,11 +157,11 @@ static size_t count_of(const dma330_segment *parts)
     return count;
 }
 
-static size_t moments_of(const dma330_moment *moments)
+static size_t events_of(const dma330_event *events)
 {
     size_t count = 0;
 
-    while (count < PARTS && moments[count].copied + moments[count].cleared > 0)
+    while (count < PARTS && events[count].copied + events[count].cleared > 0)
         count++;
     return count;
 }
@@ -169,35 +169,22 @@ static size_t moments_of(const dma330_moment *moments)
 /* Returns whether all is written as in row n. */
 static bool is_row(size_t n)
 {
-    size_t copies = rows[n].src.len > 0, zeros = count_of(rows[n].zeros), moments = moments_of(rows[n].moments);
-    bool is = has_counts(copies, copies, zeros, moments, rows[n].copied, rows[n].cleared) && out.work.steps == rows[n].steps &&
-              out.work.cause == DMA330_CAUSE_NONE && out.work.pc == 0 && out.work.addr == 0;
+    size_t copies = rows[n].src.len > 0, zeros = count_of(rows[n].zeros), events = events_of(rows[n].events);
+    bool is = has_counts(copies, copies, zeros, events, rows[n].copied, rows[n].cleared) &&
+              out.explanation.steps == rows[n].steps && out.explanation.cause == DMA330_CAUSE_NONE && out.explanation.pc == 0 &&
+              out.explanation.addr == 0;
 
     if (copies > 0)
         is = is && out.src[0].addr == rows[n].src.addr && out.src[0].len == rows[n].src.len && out.src[0].times == 1 &&
              is_segment(out.dst[0], rows[n].dst.addr, rows[n].dst.len);
     for (size_t k = 0; k < zeros; k++)
         is = is && is_segment(out.zeros[k], rows[n].zeros[k].addr, rows[n].zeros[k].len);
-    for (size_t k = 0; k < moments; k++)
-        is = is && memcmp(&out.moments[k], &rows[n].moments[k], sizeof out.moments[k]) == 0;
+    for (size_t k = 0; k < events; k++)
+        is = is && memcmp(&out.events[k], &rows[n].events[k], sizeof out.events[k]) == 0;
     return is && memcmp(out.src + copies, unwritten.src, (ROOM - copies) * sizeof out.src[0]) == 0 &&
            memcmp(out.dst + copies, unwritten.dst, (ROOM - copies) * sizeof out.dst[0]) == 0 &&
            memcmp(out.zeros + zeros, unwritten.zeros, (ROOM - zeros) * sizeof out.zeros[0]) == 0 &&
-           memcmp(out.moments + moments, unwritten.moments, (ROOM - moments) * sizeof out.moments[0]) == 0;
-}
-
-/* The calls without a list of zeros refuse a program with this cause, offset and instructions, and write no list. */
-static bool is_refused(const uint8_t *program, size_t len, uint32_t bus, uint32_t cause, uint32_t pc, uint32_t steps)
-{
-    dma330_repeated src = {1, 2, 3};
-    dma330_segment dst = {1, 2};
-    dma330_happening happening = {1, 2, 3};
-    dma330_explanation x = {9, 9, 9, 9, 9, 9, 9};
-
-    allocations_left = MANY;
-    return dma330_explain(program, len, bus, MOST, &src, 1, &dst, 1, &happening, 1, &x) == DMA330_UNEXPLAINED &&
-           x.src_len == 0 && x.dst_len == 0 && x.happenings_len == 0 && x.size == 0 && x.cause == cause && x.pc == pc &&
-           x.steps == steps && src.times == 3 && dst.len == 2 && happening.stored == 3;
+           memcmp(out.events + events, unwritten.events, (ROOM - events) * sizeof out.events[0]) == 0;
 }
 
 static void explains_each(void)
@@ -209,10 +196,10 @@ static void explains_each(void)
         check(explain_from(program, len, rows[n].bus, &nothing, MOST) == DMA330_OK && is_row(n), rows[n].what, rows[n].bus);
         check(explain_from(program, len, rows[n].bus, &nothing, rows[n].steps) == DMA330_OK && is_row(n), rows[n].what, 0);
         check(explain_from(program, len, rows[n].bus, &nothing, rows[n].steps - 1) == DMA330_UNEXPLAINED &&
-                  out.work.cause == DMA330_CAUSE_NO_END && out.work.steps == rows[n].steps - 1, rows[n].what, 1);
+                  out.explanation.cause == DMA330_CAUSE_NO_END && out.explanation.steps == rows[n].steps - 1, rows[n].what, 1);
         check(explain_from(program, len, 0, &nothing, MOST) == DMA330_UNEXPLAINED &&
-                  out.work.cause == DMA330_CAUSE_UNDEF_INSTR, rows[n].what, 2);
-        check(is_refused(program, len, rows[n].bus, DMA330_CAUSE_STORES_ZEROS, 0, 0), rows[n].what, 3);
+                  out.explanation.cause == DMA330_CAUSE_UNDEF_INSTR, rows[n].what, 2);
+        check(explain_from(program, len, rows[n].bus, &any, MOST) == DMA330_OK && is_row(n), rows[n].what, 3);
     }
     check(explain_from(rows[1].program, sizeof rows[1].program, 32, &nothing, MOST) == DMA330_UNEXPLAINED &&
               has_cause(DMA330_CAUSE_OPERAND_INVALID, 13, 3, 0), "a beat of 64 bits", 32);
@@ -226,26 +213,26 @@ static void refuses_each(void)
 
         check(explain_from(program, len, 32, &nothing, MOST) == DMA330_UNEXPLAINED &&
                   has_cause(refused[n].cause, refused[n].pc, refused[n].steps, refused[n].addr), refused[n].what, 32);
-        check(is_refused(program, len, 32, refused[n].cause, refused[n].pc, refused[n].steps), refused[n].what, 0);
+        check(explain_from(program, len, 32, &any, MOST) == DMA330_UNEXPLAINED &&
+                  has_cause(refused[n].cause, refused[n].pc, refused[n].steps, refused[n].addr), refused[n].what, 0);
     }
 }
 
 /* ---- from registers ---- */
 
-/* A program that sets no register copies from where the program before it has ended, five times with LC0. The pc and the
- * counts of the registers have no meaning. */
+/* A program that sets no register copies from where the program before it has ended, five times with LC0. */
 static void explains_from_registers(void)
 {
     static const uint8_t copy[] = {DMALD, DMAST, DMALPEND, 2, DMAEND}, clear[] = {DMASTZ, DMALPEND, 1, DMAEND};
     static const uint32_t refused_words[] = {1 << 28, 5 << 1, 1u << 31, 0x0001C007};
-    dma330_registers start = {9, 0x1000, 0x2000, 0x00014005, 4, 0, 1, 77, 88};
+    dma330_start start = {DMA330_KNOWN_ALL, 0x1000, 0x2000, 0x00014005, 4, 0};
 
     check(explain_from(copy, sizeof copy, 32, &start, MOST) == DMA330_OK && has_counts(1, 1, 0, 0, 20, 0) &&
-              out.work.steps == 16 && out.src[0].addr == 0x1000 && out.src[0].len == 20 && out.src[0].times == 1 &&
+              out.explanation.steps == 16 && out.src[0].addr == 0x1000 && out.src[0].len == 20 && out.src[0].times == 1 &&
               is_segment(out.dst[0], 0x2000, 20), "from registers", 0);
     check(explain_from(copy, sizeof copy, 0, &start, MOST) == DMA330_OK && has_counts(1, 1, 0, 0, 20, 0), "on a channel", 0);
     check(explain_from(clear, sizeof clear, 32, &start, MOST) == DMA330_OK && has_counts(0, 0, 1, 0, 0, 20) &&
-              out.work.steps == 11 && is_segment(out.zeros[0], 0x2000, 20), "zeros from registers", 0);
+              out.explanation.steps == 11 && is_segment(out.zeros[0], 0x2000, 20), "zeros from registers", 0);
     start.lc0 = 0;
     start.sar = 0x2000;
     check(explain_from(copy, sizeof copy, 64, &start, MOST) == DMA330_UNEXPLAINED &&
@@ -262,9 +249,44 @@ static void explains_from_registers(void)
               has_cause(DMA330_CAUSE_STORES_FIXED, 1, 1, 0), "from zeros", 0);
 }
 
+/* Of these registers only some are known. An instruction that uses one of the others is refused, in the order of the uses:
+ * a load uses SAR and CCR, a store DAR, and the DMALPEND LC0. Members that aren't known aren't read, and LC1 isn't used. */
+static void explains_from_some(void)
+{
+    static const uint8_t copy[] = {DMALD, DMAST, DMALPEND, 2, DMAEND};
+    static const struct {
+        uint32_t lacks, cause, pc, steps;
+    } uses[] = {
+        {DMA330_KNOWN_SAR, DMA330_CAUSE_UNSET_SAR, 0, 0},
+        {DMA330_KNOWN_CCR, DMA330_CAUSE_UNSET_CCR, 0, 0},
+        {DMA330_KNOWN_DAR, DMA330_CAUSE_UNSET_DAR, 1, 1},
+        {DMA330_KNOWN_LC0, DMA330_CAUSE_UNSET_LC0, 2, 2},
+        {DMA330_KNOWN_SAR + DMA330_KNOWN_CCR, DMA330_CAUSE_UNSET_SAR, 0, 0},
+    };
+
+    for (uint32_t n = 0; n < sizeof uses / sizeof uses[0]; n++) {
+        dma330_start start = {DMA330_KNOWN_ALL - uses[n].lacks, 0x1000, 0x2000, 0x00014005, 4, 0};
+
+        if ((uses[n].lacks & DMA330_KNOWN_CCR) != 0)
+            start.ccr = 0xFFFFFFFF;
+        check(explain_from(copy, sizeof copy, 32, &start, MOST) == DMA330_UNEXPLAINED &&
+                  has_cause(uses[n].cause, uses[n].pc, uses[n].steps, 0), "an unknown register", n);
+    }
+    for (uint32_t known = DMA330_KNOWN_ALL - DMA330_KNOWN_LC1; known <= DMA330_KNOWN_ALL; known += DMA330_KNOWN_LC1) {
+        const dma330_start start = {known, 0x1000, 0x2000, 0x00014005, 4, 9};
+
+        check(explain_from(copy, sizeof copy, 32, &start, MOST) == DMA330_OK && has_counts(1, 1, 0, 0, 20, 0), "LC1", known);
+    }
+    for (uint32_t bit = 5; bit < 32; bit++) {
+        const dma330_start start = {DMA330_KNOWN_ALL | 1u << bit, 0x1000, 0x2000, 0x00014005, 4, 0};
+
+        check(explain_from(copy, sizeof copy, 32, &start, MOST) == DMA330_BAD_CONFIG && is_unwritten(), "no register", bit);
+    }
+}
+
 /* ---- codes ---- */
 
-/* With room for one item less, of any list, no list is written, and the work has the numbers that need room. */
+/* With room for one item less, of any list, no list is written, and the explanation has the numbers that need room. */
 static void needs_room(void)
 {
     enum { ROW = 4 };
@@ -274,9 +296,9 @@ static void needs_room(void)
         int32_t code = n == 4 ? DMA330_OK : DMA330_BUFFER_TOO_SMALL;
 
         forget();
-        check(dma330_explain_work(program, sizeof rows[ROW].program, 32, &nothing, MOST, out.src, 1 - (n == 0), out.dst,
-                                  1 - (n == 1), out.zeros, 2 - (n == 2), out.moments, 3 - (n == 3), &out.work) == code &&
-                  has_counts(1, 1, 2, 3, 16, 32) && out.work.steps == 11 && out.work.cause == DMA330_CAUSE_NONE &&
+        check(dma330_explain(program, sizeof rows[ROW].program, 32, &nothing, MOST, out.src, 1 - (n == 0), out.dst,
+                             1 - (n == 1), out.zeros, 2 - (n == 2), out.events, 3 - (n == 3), &out.explanation) == code &&
+                  has_counts(1, 1, 2, 3, 16, 32) && out.explanation.steps == 11 && out.explanation.cause == DMA330_CAUSE_NONE &&
                   are_lists_unwritten() == (n < 4), "room", n);
     }
     check(is_row(ROW), "enough room", 0);
@@ -292,8 +314,8 @@ static void needs_memory(void)
     for (n = 0; code == DMA330_NO_MEMORY; n++) {
         forget();
         allocations_left = n;
-        code = dma330_explain_work(rows[4].program, sizeof rows[4].program, 32, &nothing, MOST, out.src, ROOM, out.dst, ROOM,
-                                   out.zeros, ROOM, out.moments, ROOM, &out.work);
+        code = dma330_explain(rows[4].program, sizeof rows[4].program, 32, &nothing, MOST, out.src, ROOM, out.dst, ROOM,
+                              out.zeros, ROOM, out.events, ROOM, &out.explanation);
         check(code == DMA330_OK ? is_row(4) : code == DMA330_NO_MEMORY && is_unwritten(), "memory", (uint32_t)n);
     }
     check(n > 4, "an explanation with its memory", (uint32_t)n);
@@ -306,8 +328,8 @@ static void needs_memory(void)
 static int32_t explain_channel(dma330_device *device, uint8_t channel, size_t room)
 {
     forget();
-    return dma330_device_explain_work(device, channel, MOST, out.src, room, out.dst, room, out.zeros, room, out.moments, room,
-                                      &out.work);
+    return dma330_device_explain(device, channel, MOST, out.src, room, out.dst, room, out.zeros, room, out.events, room,
+                                 &out.explanation);
 }
 
 /* Sets the wanted bytes to those after a row. */
@@ -321,7 +343,7 @@ static void want_row(machine *m, size_t n)
             *byte_at(m->wanted, rows[n].zeros[i].addr + k) = 0;
 }
 
-/* A device explains a channel's program as dma330_explain_work does, and the program does what is explained. */
+/* A device explains a channel's program as dma330_explain does, and the program does what is explained. */
 static void explains_on_a_device(void)
 {
     static machine m;
@@ -339,7 +361,7 @@ static void explains_on_a_device(void)
         start(&m, 1, LOW);
         check(explain_channel(&m.device, 1, ROOM) == DMA330_OK && is_row(n), rows[n].what, rows[n].bus);
         check(explain_channel(&m.device, 1, 0) == DMA330_BUFFER_TOO_SMALL && are_lists_unwritten() &&
-                  out.work.cleared == rows[n].cleared, rows[n].what, 0);
+                  out.explanation.cleared == rows[n].cleared, rows[n].what, 0);
         allocations_left = 0;
         want_row(&m, n);
         debug(&m, MANAGER, DMASEV, 3 << 3, 0);
@@ -348,8 +370,8 @@ static void explains_on_a_device(void)
     }
 }
 
-/* Makes the wanted bytes those at a moment: the first destinations copied, and the first zeros 0. */
-static void want_so_far(machine *m, size_t n, const dma330_moment *at)
+/* Makes the wanted bytes those at an event: the first destinations copied, and the first zeros 0. */
+static void want_so_far(machine *m, size_t n, const dma330_event *at)
 {
     uint64_t left = at->cleared;
 
@@ -360,8 +382,8 @@ static void want_so_far(machine *m, size_t n, const dma330_moment *at)
             *byte_at(m->wanted, rows[n].zeros[part].addr + k) = 0;
 }
 
-/* A turn ends at each moment. As many bytes are copied and set to 0 there as it says, and no others. */
-static void is_so_far_at_each_moment(size_t n)
+/* A turn ends at each event. As many bytes are copied and set to 0 there as it says, and no others. */
+static void is_so_far_at_each_event(size_t n)
 {
     static machine m;
 
@@ -369,8 +391,8 @@ static void is_so_far_at_each_moment(size_t n)
     memcpy(byte_at(m.bytes, LOW), rows[n].program, sizeof rows[n].program);
     want_ram(&m);
     start(&m, 0, LOW);
-    for (size_t k = 0; k < PARTS && (rows[n].moments[k].copied > 0 || rows[n].moments[k].cleared > 0); k++) {
-        want_so_far(&m, n, &rows[n].moments[k]);
+    for (size_t k = 0; k < PARTS && (rows[n].events[k].copied > 0 || rows[n].events[k].cleared > 0); k++) {
+        want_so_far(&m, n, &rows[n].events[k]);
         turn(&m, 0, 1000);
         check(is_ram_wanted(&m), rows[n].what, (uint32_t)k);
     }
@@ -383,10 +405,11 @@ int main(void)
     explains_each();
     refuses_each();
     explains_from_registers();
+    explains_from_some();
     needs_room();
     needs_memory();
     explains_on_a_device();
-    is_so_far_at_each_moment(4);
-    is_so_far_at_each_moment(5);
+    is_so_far_at_each_event(4);
+    is_so_far_at_each_event(5);
     return end_checks();
 }
