@@ -1,7 +1,7 @@
 # The part of test_library that compares the library with what its releases had. tests/c/abi has a list for each of
-# them, which
-# tests/c/abi/list has made: what programs rely on in the headers. A program for one of them works with all later versions
-# of the same MAJOR, so each line of a list is still there. The list of this version itself, if there is one, has all.
+# them, which tests/c/abi/list has made: what programs rely on in the headers. A program for one of them works with all
+# later versions of the same MAJOR, so each line of a list is still there. The list of this version itself, if there is
+# one, has all.
 
 abi=$full/abi
 
