@@ -14,7 +14,7 @@ use Rattle.dma_explain.specs.Explains.{ExplainedOnce, Explains, Finds, FoundOnce
 use Rattle.dma_explain.specs.Explains.{after_fetch, after_insn, all_of, amounts_of, bursts_in, cleared, counted, events_in, happening_of, has_twice, held}
 use Rattle.dma_explain.specs.Explains.{items_in, items_of, next_in, stop_of, stop_of_insn, stop_of_lists, traced, unrolled, work_of, written, written_in}
 use Rattle.dma_explain.specs.Items.{Items, with_burst}
-use Rattle.dma_explain.specs.inner.Tracing.{Advances, AreItems, Follows, IsCopied, IsNew, Leads, Reaches, lists_of, total_of, trace_of}
+use Rattle.dma_explain.specs.inner.Tracing.{Advances, AreItems, CountsOf, Follows, IsCopied, IsNew, Leads, Reaches, lists_of, total_of, trace_of}
 use Rattle.dma_explain.specs.{declared.explain.BurstCounts.BurstCounts, declared.explain.Cause.Cause}
 use Rattle.dma_explain.specs.{declared.explain.Explained.Explained, declared.explain.Happening.Happening, declared.explain.tracer.Tracer.Tracer}
 use Rattle.dma_explain.proofs.{GoingOn.none_first, GoingOn.passed, TraceParts.same_lists, LowestPlaces.none_twice, LowestPlaces.once_of}
@@ -66,10 +66,9 @@ reaches_on {start} {program} {n} {z} i w e other stops =
           ∙ ap (bursts_in start program) (sym number);
     }
 
-pub follows_on : (program : List ℕ) (x y : Tracer) (bursts : BurstCounts) (i : ChipInsn) → Ok i ≡ next_on x.registers.bus program x.registers.pc → i ≢ End
-    → Advances i x y → y.registers.pc ≤ x.registers.pc + length (spelling i) → total_of y ≤ total_of x + 256 → bursts ≡ counted (Ok i) x.bursts
-    → Leads program 1 x (record y { bursts = bursts })
-follows_on program x y bursts i e other a jump more count start n w =
+pub follows_on : (program : List ℕ) (x y : Tracer) (i : ChipInsn) → Ok i ≡ next_on x.registers.bus program x.registers.pc → i ≢ End
+    → Advances i x y → y.registers.pc ≤ x.registers.pc + length (spelling i) → total_of y ≤ total_of x + 256 → Leads program 1 x y
+follows_on program x y i e other a jump more start n w =
     let fits = next_fits x.registers.bus program x.registers.pc i w.pc (sym e) in
     let on = reaches_on i w.reaches (sym e) other a.goes in
     record {
@@ -85,12 +84,15 @@ follows_on program x y bursts i e other a jump more count start n w =
         goes = on.goes;
         events_are = a.events ∙ on.events_are;
         items_are = a.lists ∙ on.items_are;
-        bursts_are = count ∙ on.bursts_are;
+        bursts_are = a.bursts ∙ on.bursts_are;
       };
       pc = omega (arith, fits, jump);
       stored = omega (arith, w.stored, more);
-      counts = grind arith;
+      counts = grows_one (Ok i) n x.bursts y.bursts w.counts a.bursts;
     }
+  where
+    grows_one : (r : Result ChipInsn FaultKind) (n : ℕ) (b c : BurstCounts) → CountsOf n b → c ≡ counted r b → CountsOf (n + 1) c
+    grows_one r n b c h e = grind arith
 
 -- ---- DMAEND
 

@@ -1,11 +1,12 @@
 -- Runs without memory that differ only in registers that aren't known.
-use Rattle.std.proofs.Common.{◌≡◌, ◌≢◌, ℕ, zero, suc, ◌+◌, ◌≤◌, Bool, true, false, cond, ◌&&◌, List, [], ◌∷◌, length, Some, None, Result, Ok, refl, sym, ap}
-use Rattle.std.proofs.Common.{◌∙◌, ◌*◌, ◌<◌, subst, arith, inl, inr, length-append}
+use Rattle.std.proofs.Common.{◌≡◌, ◌≢◌, ℕ, zero, suc, ◌+◌, ◌≤◌, Bool, true, false, cond, ◌&&◌, List, [], ◌∷◌, length, Option, Some, None, Result, Ok, refl, sym, ap}
+use Rattle.std.proofs.Common.{◌∙◌, ◌*◌, subst, arith, inl, inr}
 use Rattle.std.specs.List.{Contains}
-use Rattle.std.specs.Prelude.{IfOk, nat_lt}
-use Rattle.std.proofs.lemmas.{Bool.cases_Bool, Bool.true≢false, Bool.Decides.nat_tests}
+use Rattle.std.specs.Prelude.{IfErr, IfOk, OnOk, nat_lt}
+use Rattle.std.proofs.lemmas.Result.{IfErr-weaker, on_ok_weaker}
+use Rattle.std.proofs.lemmas.{Bool.cases_Bool, Bool.Decides.nat_tests}
 use Rattle.dma_insn.specs.declared.chip.Address.TheVariants.{Destination, Source}
-use Rattle.dma_insn.specs.declared.chip.ChipInsn.TheVariants.{AddHalfword, End, Ld, Lp, LpEnd, Mov, St, StoreZeros}
+use Rattle.dma_insn.specs.declared.chip.ChipInsn.TheVariants.{AddHalfword, End, Ld, Lp, LpEnd, Mov, Sev, St, StoreZeros, Wfe}
 use Rattle.dma_insn.specs.declared.insn.Counter.TheVariants.{Lc0, Lc1}
 use Rattle.dma_insn.specs.declared.insn.Reg.TheVariants.{Ccr, Dar, Sar}
 use Rattle.dma_insn.specs.{declared.chip.ChipInsn.ChipInsn, declared.insn.Counter.Counter, Chip.spelling}
@@ -13,17 +14,19 @@ use Rattle.dma_chan.specs.declared.bus.Bus.TheVariants.{Chip, Ideal}
 use Rattle.dma_chan.specs.Exec.{begun, counter_of, destination_of, looped, moved, source_of}
 use Rattle.dma_chan.specs.{declared.bursts.Burst.Burst, declared.bus.Bus.Bus, declared.exec.Registers.Registers, Bursts.burst_at, Bursts.drops, Bus.accepts, Next.next_on}
 use Rattle.dma_chan.specs.declared.turn.FaultKind.TheVariants.{OperandInvalid}
-use Rattle.dma_explain.specs.declared.explain.Cause.TheVariants.{DropsBytes, Fails, UsesUnknown}
+use Rattle.dma_explain.specs.declared.explain.Cause.TheVariants.{DropsBytes, Fails}
 use Rattle.dma_explain.specs.declared.explain.known.Register.TheVariants as registers
 use Rattle.dma_explain.specs.{declared.explain.Cause.Cause, declared.explain.known.Known.Known, declared.explain.known.Register.Register}
-use Rattle.dma_explain.specs.Explains.{Refuses, Trace, after_insn, counted, held, stop_of_insn, stop_of_mov, traced, untraced, written_in}
-use Rattle.dma_explain.specs.Known.{MayBegin, RefusesFor, UsesUnset, is_known, value_of}
+use Rattle.dma_explain.specs.Explains.{Trace, after_insn, held, stop_of_insn, stop_of_mov, untraced}
+use Rattle.dma_explain.specs.Known.{MayBegin, is_known}
 use Rattle.dma_explain.specs.{Items.Items, Items.with_burst, Uses.compares, Uses.register_of, Uses.uses}
-use Rattle.dma_explain.specs.inner.Knowing.{first_unknown, known_after, over, over_in}
-use Rattle.dma_explain.specs.inner.Tracing.{Advances, CountsOf, Follows, IsCopied, IsNew, IsTracer, Leads, lists_of, total_of, trace_of}
-use Rattle.dma_explain.specs.{declared.explain.BurstCounts.BurstCounts, declared.explain.Explained.Explained, declared.explain.known.Given.Given}
-use Rattle.dma_explain.specs.{declared.explain.Unexplained.Unexplained, declared.explain.tracer.Tracer.Tracer}
-use Rattle.dma_explain.proofs.Explaining.{follows_new, follows_on, next_here}
+use Rattle.dma_explain.specs.inner.Knowing.{Halts, HaltsFor, LacksOne, Takes, first_unknown, lacks, known_after, over, over_in}
+use Rattle.dma_explain.specs.inner.Tracing.{Advances, CountsOf, Follows, IsCopied, IsNew, IsTracer, Leads, Stops, lists_of, total_of, trace_of}
+use Rattle.dma_explain.specs.{declared.explain.Explained.Explained, declared.explain.known.Given.Given}
+use Rattle.dma_explain.specs.{declared.explain.tracer.Tracer.Tracer}
+use Rattle.dma_explain.specs.{declared.explain.Amounts.Amounts, declared.explain.EventSync.EventSync}
+use Rattle.dma_explain.proofs.Explaining.{follows_new, follows_on}
+use Rattle.dma_explain.proofs.TracerSteps.{Happens}
 
 -- ---- known registers
 
@@ -164,14 +167,46 @@ over_advances k s i x y h none a =
       trace = ap (over_at (known_after i k) s) a.trace ∙ sym w.trace;
       events = a.events;
       lists = a.lists ∙ sym (w.items (lists_of x));
+      bursts = a.bursts;
     }
 
-pub over_follows : (k : Known) (s : Registers) (program : List ℕ) (x y : Tracer) (bursts : BurstCounts) (i : ChipInsn) → IsTracer x
-    → first_unknown k (uses x.registers.bus x.held i) ≡ None → Ok i ≡ next_on x.registers.bus program x.registers.pc → i ≢ End → Advances i x y
-    → y.registers.pc ≤ x.registers.pc + length (spelling i) → total_of y ≤ total_of x + 256 → bursts ≡ counted (Ok i) x.bursts
-    → Leads program 1 (over_in k s x) (over_in (known_after i k) s (record y { bursts = bursts }))
-over_follows k s program x y bursts i h none e other a jump more count =
-    follows_on program (over_in k s x) (over_in (known_after i k) s y) bursts i e other (over_advances k s i x y h none a) jump more count
+pub over_follows : (s : Registers) (program : List ℕ) (x y : Tracer) (i : ChipInsn) → IsTracer x → Ok i ≡ next_on x.registers.bus program x.registers.pc
+    → i ≢ End → Takes i x y → y.registers.pc ≤ x.registers.pc + length (spelling i) → total_of y ≤ total_of x + 256
+    → Leads program 1 (over_in x.known s x) (over_in y.known s y)
+over_follows s program x y i h e other t jump more =
+    follows_on program (over_in x.known s x) (over_in y.known s y) i e other
+    (subst (λ (k : Known). Advances i (over_in x.known s x) (over_in k s y)) (sym t.after) (over_advances x.known s i x y h t.known t.advances)) jump more
+
+-- DMAWFE and DMASEV use and set no register
+pub syncs_use : (i : ChipInsn) (s : EventSync) (x : Tracer) → Happens i s → lacks i x ≡ None
+syncs_use (Wfe e v) s x h = refl
+syncs_use (Sev e) s x h = refl
+syncs_use i s x h =
+    let none : Amounts = record { copied = 0; cleared = 0 } in
+    absurd (let bad : [] ≡ record { sync = s; done = none } ∷ [] = h none in cc)
+
+pub syncs_set : (i : ChipInsn) (s : EventSync) (k : Known) → Happens i s → k ≡ known_after i k
+syncs_set (Wfe e v) s k h = refl
+syncs_set (Sev e) s k h = refl
+syncs_set i s k h =
+    let none : Amounts = record { copied = 0; cleared = 0 } in
+    absurd (let bad : [] ≡ record { sync = s; done = none } ∷ [] = h none in cc)
+
+-- ---- instructions that aren't executed
+
+pub halts : (i : ChipInsn) (x : Tracer) (cause : Cause) → lacks i x ≡ None → Stops i x cause → Halts i x cause
+halts i x cause none h = subst (λ (o : Option Register). HaltsFor o i x cause) (sym none) h
+
+pub halts_lacking : (i : ChipInsn) (x : Tracer) (cause : Cause) → LacksOne x.known (uses x.registers.bus x.held i) cause → Halts i x cause
+halts_lacking i x cause h = subst (λ (o : Option Register). HaltsFor o i x cause) (sym h.1) h.2
+
+pub takes_if : {X : Type 0} (i : ChipInsn) (x y : Tracer) (done : Result X Cause) → lacks i x ≡ None → y.known ≡ known_after i x.known
+    → OnOk done (Advances i x y) → OnOk done (Takes i x y)
+takes_if i x y done none after = on_ok_weaker done (λ a. record { known = none; after = after; advances = a })
+
+pub halts_if : {X : Type 0} (i : ChipInsn) (x : Tracer) (done : Result X Cause) → lacks i x ≡ None → IfErr done (λ cause. Stops i x cause)
+    → IfErr done (λ cause. Halts i x cause)
+halts_if i x done none = IfErr-weaker done _ _ (λ cause h. halts i x cause none h)
 
 -- ---- runs from each start
 
@@ -247,11 +282,10 @@ over_new given s program x m h =
 -- ---- further instructions
 
 -- the run from a start goes on
-pub leads_on : (k l : Known) (program : List ℕ) (i : ChipInsn) (x y : Tracer) (s : Registers) (n m : ℕ) (r : Result ℕ Cause) → r ≡ Ok m
-    → l ≡ known_after i k → IfOk r (λ j. (start : Registers) → Leads program j (over_in k start x) (over_in (known_after i k) start y))
-    → Follows s program n (over_in k s x) → Follows s program (n + m) (over_in l s y)
-leads_on k l program i x y s n m r e is leads w =
-    subst (λ (q : Known). Follows s program (n + m) (over_in q s y)) (sym is) ((rw e at leads) s s n w)
+pub leads_on : (program : List ℕ) (x y : Tracer) (s : Registers) (n m : ℕ) (r : Result ℕ Cause) → r ≡ Ok m
+    → IfOk r (λ j. (start : Registers) → Leads program j (over_in x.known start x) (over_in y.known start y)) → Follows s program n (over_in x.known s x)
+    → Follows s program (n + m) (over_in y.known s y)
+leads_on program x y s n m r e leads w = (rw e at leads) s s n w
 
 -- ---- DMAEND
 
@@ -266,68 +300,3 @@ over_copied k s x count y c = record {
   bursts = c.bursts;
   ends = c.ends;
 }
-
--- ---- refusals
-
-pub never_unknown : (i : ChipInsn) (z : Trace) (r : Register) → stop_of_insn i z ≢ Some (UsesUnknown r)
-never_unknown i z r = grind arith
-
--- so no instruction stops for that
-pub stops_unknown : (i : ChipInsn) (z : Trace) (cause : Cause) → stop_of_insn i z ≡ Some cause → (r : Register) → cause ≢ UsesUnknown r
-stops_unknown i z cause e r is = never_unknown i z r (e ∙ ap Some is)
-
--- a register that isn't known wasn't known before
-pub was_unknown : (r : Register) (before now : Known) → (is_known r before ≡ true → is_known r now ≡ true) → is_known r now ≡ false
-    → is_known r before ≡ false
-was_unknown r before now grows unknown = elim (cases_Bool (is_known r before)) [
-  | inl was ↦ absurd (true≢false (sym (grows was) ∙ unknown))
-  | inr was ↦ was
-]
-
--- a refusal for another cause
-pub refused_for : (cause : Cause) (given : Given) (program : List ℕ) (most : ℕ) (u : Unexplained) → ((r : Register) → cause ≢ UsesUnknown r)
-    → ((s : Registers) → MayBegin given s → Refuses s program most u) → RefusesFor cause given program most u
-refused_for (UsesUnknown r) given program most u never h = absurd (never r refl)
-refused_for cause given program most u never h = h
-
--- an instruction that uses only known registers stops for the same cause
-pub stop_over : (k : Known) (s : Registers) (i : ChipInsn) (x : Tracer) (cause : Cause) → IsTracer x → first_unknown k (uses x.registers.bus x.held i) ≡ None
-    → stop_of_insn i (trace_of x) ≡ Some cause → stop_of_insn i (trace_of (over_in k s x)) ≡ Some cause
-stop_over k s i x cause h none e =
-    (alike k s i (trace_of x) (ap (λ (n : ℕ). first_unknown k (uses x.registers.bus n i)) (sym h.held) ∙ none)).stop ∙ e
-
--- a register that isn't known has the value with which the program began
-unknown_value : (r : Register) (k : Known) (s q : Registers) → is_known r k ≡ false → value_of r (over k s q) ≡ value_of r s
-unknown_value registers.Sar k s q e = rw e refl
-unknown_value registers.Dar k s q e = rw e refl
-unknown_value registers.Ccr k s q e = rw e refl
-unknown_value registers.Lc0 k s q e = rw e refl
-unknown_value registers.Lc1 k s q e = rw e refl
-
--- how many bytes are stored
-total_there : {s : Registers} {program : List ℕ} {n : ℕ} {x : Tracer} → Follows s program n x → total_of x ≡ length (written_in (traced s program n))
-total_there {s} {program} {n} {x} w = grind (arith, length-append)
-
--- the use of a register that isn't known
-pub uses_unset : (k : Known) (s : Registers) (program : List ℕ) (most n : ℕ) (x : Tracer) (i : ChipInsn) (r : Register) (stored : ℕ)
-    → Follows s program n (over_in k s x) → Ok i ≡ next_on x.registers.bus program x.registers.pc → n < most → is_known r k ≡ false
-    → Contains (uses x.registers.bus x.held i) r → stored ≡ total_of x
-    → UsesUnset s program most r (record { cause = UsesUnknown r; pc = x.registers.pc; steps = n; addr = 0; stored = stored })
-uses_unset k s program most n x i r stored w next less unknown used total =
-    let y = over_in k s x in
-    let there : trace_of y ≡ traced s program n = w.reaches.trace in
-    let held_there : x.held ≡ held (traced s program n) = w.tracer.held ∙ ap held there in
-    let bus_there : x.registers.bus ≡ (traced s program n).registers.bus = ap (λ (z : Trace). z.registers.bus) there in
-    let is = next_here s program n y (Ok i) w next in
-    record {
-      goes = w.reaches.goes;
-      few = less;
-      pc = ap (λ (z : Trace). z.registers.pc) there;
-      uses =
-          rw is
-          (subst (λ (b : Bus). Contains (uses b (held (traced s program n)) i) r) bus_there
-          (subst (λ (j : ℕ). Contains (uses x.registers.bus j i) r) held_there used));
-      unset = ap (λ (z : Trace). value_of r z.registers) (sym there) ∙ unknown_value r k s x.registers unknown;
-      addr = refl;
-      stored = total ∙ total_there w;
-    }

@@ -16,6 +16,7 @@ pub mod TracerSteps
 pub mod TracerBursts
 pub mod Explaining
 pub mod Knowing
+pub mod RefusedKnowing
 pub mod ItemsInTurn
 pub mod RoundSizes
 pub mod Rounds

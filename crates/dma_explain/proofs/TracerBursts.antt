@@ -53,7 +53,7 @@ module _ (x : Tracer) (b : Burst) (h : IsTracer x) (some : MovesSome b) where
 
   pub load_advances : (after : Registers) (n : ℕ) (src : Vec Repeated Global) → b ≡ source_of x.registers → after ≡ moved Ld x.registers
       → n ≡ x.held + burst_len b → n ≤ 256 → passes b ≡ false → src.items ≡ with_item join_read x.src.items (read_of b)
-      → Advances Ld x (record x { registers = after; held = n; src = src })
+      → Advances Ld x (record x { registers = after; held = n; src = src; bursts = record x.bursts { loads = x.bursts.loads + 1 } })
   load_advances after n src is registers more room low pushed =
       let all = reads_with x.src.items (read_of b) h.items.reads (read_is b some low) in
       let read : places (unrolled src.items) ≡ z.loads ++ touched b = ap (λ rs. places (unrolled rs)) pushed ∙ all.1
@@ -73,13 +73,14 @@ module _ (x : Tracer) (b : Burst) (h : IsTracer x) (some : MovesSome b) where
         trace = same_parts registers (read ∙ ap (λ (c : Burst). z.loads ++ touched c) is) refl refl;
         events = sym (append-nil x.events.items);
         lists = lists ∙ ap (λ (c : Burst). record (lists_of x) { reads = with_item join_read x.src.items (read_of c) }) is;
+        bursts = refl;
       }
 
   -- a store that continues
   module _ (is : b ≡ destination_of x.registers) (up : b.increments ≡ true) (low : passes b ≡ false) where
     pub store_advances : (after : Registers) (n : ℕ) (done : Amounts) (dst : Vec Segment Global) → burst_len b ≤ x.held → after ≡ moved St x.registers
         → n ≡ x.held - burst_len b → done ≡ record x.done { copied = x.done.copied + burst_len b } → dst.items ≡ with_item join_run x.dst.items (run_of b)
-        → Advances St x (record x { registers = after; held = n; done = done; dst = dst })
+        → Advances St x (record x { registers = after; held = n; done = done; dst = dst; bursts = record x.bursts { stores = x.bursts.stores + 1 } })
     store_advances after n done dst has registers less more pushed =
         let all = runs_with x.dst.items (run_of b) h.items.writes (run_is b some low) in
         let put : places dst.items ≡ z.stores ++ touched b = ap places pushed ∙ all.1
@@ -100,6 +101,7 @@ module _ (x : Tracer) (b : Burst) (h : IsTracer x) (some : MovesSome b) where
           trace = same_parts registers refl (put ∙ ap (λ (c : Burst). z.stores ++ touched c) is) refl;
           events = sym (append-nil x.events.items);
           lists = lists ∙ ap (λ (c : Burst). record (lists_of x) { writes = with_item join_run x.dst.items (run_of c) }) is;
+          bursts = refl;
         }
 
     pub clear_advances : (after : Registers) (done : Amounts) (zeros : Vec Segment Global) → after ≡ moved StoreZeros x.registers
@@ -123,6 +125,7 @@ module _ (x : Tracer) (b : Burst) (h : IsTracer x) (some : MovesSome b) where
           trace = same_parts registers refl refl (put ∙ ap (λ (c : Burst). z.zeros ++ touched c) is);
           events = sym (append-nil x.events.items);
           lists = lists ∙ ap (λ (c : Burst). record (lists_of x) { zeros = with_item join_run x.zeros.items (run_of c) }) is;
+          bursts = refl;
         }
 
 -- ---- what a tracer's instructions know

@@ -231,26 +231,16 @@ pub fn explain_from(
             stored: 0,
         });
     }
-    let mut tracer = Tracer::new(alloc, given.registers);
-    let mut known = given.known;
+    let mut tracer = Tracer::new(alloc, given);
     let mut steps = 0;
     while steps < most {
         let pc = tracer.registers.pc;
-        let here = Unexplained {
-            cause: Cause::NoEnd,
-            pc,
-            steps,
-            addr: 0,
-            stored: tracer.stored(),
-        };
         let next = match Next::on(tracer.registers.bus, program, pc) {
             Ok(next) => next,
-            Err(kind) => {
-                let cause = Cause::Fails(kind);
-                return Err(Unexplained { cause, ..here });
-            }
+            Err(kind) => return Err(tracer.refusal(Cause::Fails(kind), pc, steps)),
         };
         if let ChipInsn::End = next.insn() {
+            let here = tracer.refusal(Cause::NoEnd, pc, steps);
             return match finish(alloc, tracer, steps + 1) {
                 Ok(explained) => Ok(explained),
                 Err(stop) => Err(Unexplained {
@@ -260,23 +250,10 @@ pub fn explain_from(
                 }),
             };
         }
-        if let Some(register) = known.unknown(next.insn(), tracer.registers.bus, tracer.held) {
-            let cause = Cause::UsesUnknown(register);
-            return Err(Unexplained { cause, ..here });
-        }
-        match tracer.run(known, program, next, most - steps) {
+        match tracer.run(program, next, most - steps) {
             Ok(count) => steps += count,
-            Err(cause) => {
-                return Err(Unexplained { cause, ..here });
-            }
+            Err(cause) => return Err(tracer.refusal(cause, pc, steps)),
         }
-        known = known.after(next.insn());
     }
-    Err(Unexplained {
-        cause: Cause::NoEnd,
-        pc: tracer.registers.pc,
-        steps: most,
-        addr: 0,
-        stored: tracer.stored(),
-    })
+    Err(tracer.refusal(Cause::NoEnd, tracer.registers.pc, most))
 }

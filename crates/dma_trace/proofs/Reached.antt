@@ -1,6 +1,6 @@
 -- A run without memory as far as an instruction that is refused.
 use Rattle.std.proofs.Common.{◌≡◌, ◌≢◌, ℕ, suc, ◌+◌, ◌≤◌, ◌<◌, true, List, [], ◌∷◌, ◌++◌, Option, None, Result, Ok, Err, refl, sym, ap, subst, ◌∙◌, arith}
-use Rattle.std.specs.Prelude.{IfOk, slice_get}
+use Rattle.std.specs.Prelude.{IfOk, OnOk, slice_get}
 use Rattle.dma_insn.specs.declared.chip.ChipInsn.{ChipInsn}
 use Rattle.dma_chan.specs.{declared.exec.Registers.Registers, declared.turn.FaultKind.FaultKind, Next.next_on}
 use Rattle.dma_explain.specs.Explains.{GoesOn, Trace, next_in, traced}
@@ -10,7 +10,8 @@ use Rattle.dma_explain.specs.declared.explain.known.Register.{Register}
 use Rattle.dma_explain.specs.declared.explain.known.Register.TheVariants as registers
 use Rattle.dma_explain.specs.declared.explain.tracer.Tracer.{Tracer}
 use Rattle.dma_explain.specs.{Explains.Finds, Known.FindsFrom, Known.RefusesFor, Known.RefusesFrom, Known.all_given}
-use Rattle.dma_explain.specs.inner.{Knowing.first_unknown, Knowing.known_after, Knowing.over_in, Tracing.Follows, Tracing.Leads}
+use Rattle.dma_explain.specs.inner.{Knowing.Halts, Knowing.HaltsFor, Knowing.first_unknown, Knowing.known_after, Knowing.over_in}
+use Rattle.dma_explain.specs.{Uses.uses, inner.Tracing.Follows, inner.Tracing.Leads, inner.Tracing.Stops}
 use Rattle.dma_explain.proofs.{Explaining.next_here, Knowing.begins_given}
 use Rattle.dma_trace.specs.{Explained.unexplained_text, Front.front_at, Front.front_of, Touches.after_next, Touches.after_touch, Touches.conflict_text}
 use Rattle.dma_trace.specs.{Touches.touches_in, Words.cause_text, Words.refusal_text, declared.touches.Touches.Touches, declared.words.Front.Front}
@@ -35,13 +36,24 @@ none_unknown (registers.Lc0 ∷ rest) = none_unknown rest
 none_unknown (registers.Lc1 ∷ rest) = none_unknown rest
 
 -- they stay known
-all_stay : (i : ChipInsn) → known_after i all_known ≡ all_known
-all_stay i = grind arith
+pub all_stay : (i : ChipInsn) (k : Known) → k ≡ all_known → known_after i k ≡ all_known
+all_stay i k e = subst (λ (q : Known). known_after i q ≡ all_known) (sym e) (stay i)
+  where
+    stay : (i : ChipInsn) → known_after i all_known ≡ all_known
+    stay i = grind arith
 
--- and a tracer has its own registers
-pub leads_alone : (start : Registers) (program : List ℕ) (i : ChipInsn) (m : ℕ) (x y : Tracer)
-    → ((s : Registers) → Leads program m (over_in all_known s x) (over_in (known_after i all_known) s y)) → Leads program m x y
-leads_alone start program i m x y leads = subst (λ (k : Known). Leads program m x (over_in k start y)) (all_stay i) (leads start)
+-- a tracer has its own registers
+pub leads_alone : (start : Registers) (program : List ℕ) (m : ℕ) (x y : Tracer) → x.known ≡ all_known → y.known ≡ all_known
+    → ((s : Registers) → Leads program m (over_in x.known s x) (over_in y.known s y)) → Leads program m x y
+leads_alone start program m x y e f leads =
+    subst (λ (k : Known). Leads program m (over_in k start x) y) e
+    (subst (λ (k : Known). Leads program m (over_in x.known start x) (over_in k start y)) f (leads start))
+
+-- and an instruction that isn't executed is part of no work
+pub halts_alone : (i : ChipInsn) (x : Tracer) (cause : Cause) → x.known ≡ all_known → Halts i x cause → Stops i x cause
+halts_alone i x cause e h =
+    subst (λ (o : Option Register). HaltsFor o i x cause)
+    (subst (λ (k : Known). first_unknown k (uses x.registers.bus x.held i) ≡ None) (sym e) (none_unknown (uses x.registers.bus x.held i))) h
 
 -- ---- what is found from given registers
 
@@ -61,6 +73,11 @@ pub found_from : (given : Given) (start : Registers) (program : List ℕ) (most 
 found_from given start program most x e h = (subst (λ (g : Given). FindsFrom g program most x) e h) start (begins_given (all_given start))
 
 -- ---- further instructions
+
+-- what holds of a result that is no error
+pub was_ok : {X : Type 0} {P : Type 0} (r : Result X Cause) → ((cause : Cause) → r ≢ Err cause) → OnOk r P → P
+was_ok (Ok n) none h = h
+was_ok (Err cause) none h = absurd (none cause refl)
 
 -- one instruction was executed
 pub one_more : (start : Registers) (program : List ℕ) (n : ℕ) (x y : Tracer) (r : Result ℕ Cause) → ((cause : Cause) → r ≢ Err cause)

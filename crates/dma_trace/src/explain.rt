@@ -277,14 +277,7 @@ fn reached<P: Progress>(
     ensures follows { IfOk result (λ found. Follows start program.now steps found.0) }
     ensures touches { IfOk result (λ found. found.1 ≡ touches_in start program.now addr steps) }
 {
-    let known = Known {
-        sar: true,
-        dar: true,
-        ccr: true,
-        lc0: true,
-        lc1: true,
-    };
-    let mut tracer = Tracer::new(alloc, start);
+    let mut tracer = Tracer::new(alloc, Given::all(start));
     let mut touches = Touches::none();
     for done in 0..steps {
         report(progress, done);
@@ -294,7 +287,7 @@ fn reached<P: Progress>(
         };
         let insn = next.insn();
         touches.add(&insn, addr, done + 1, &registers);
-        if let Err(cause) = tracer.run(known, program, next, 1) {
+        if let Err(cause) = tracer.run(program, next, 1) {
             let Cause::NoMemory = cause else {
                 unreachable!()
             };

@@ -1,4 +1,4 @@
-use Rattle.std.proofs.Common.{ℕ, ◌+◌, ap, sym, ◌∙◌}
+use Rattle.std.proofs.Common.{ℕ, ◌+◌, ap, refl, sym, ◌∙◌}
 use Rattle.std.proofs.lemmas.Bool.{not-false}
 use Rattle.dma_explain.specs.Items.{join_run, with_item}
 use Rattle.dma_explain.proofs.TracerBursts.{at_ok, clear_advances, cleared_registers, passes_span, span_run}
@@ -14,6 +14,11 @@ returns-clause-ok c =
     let low = sym (passes_span b c.span.result c.span.ensures.addr c.span.ensures.len) ∙ sym c.if-wraps.ensures in
     let cleared = at_ok c.push_run.result _ c.if-is_err.ensures.value c.push_run.ensures
     ∙ ap (with_item join_run x.zeros.items) (span_run b span c.span-2.ensures.addr c.span-2.ensures.len) in
-    clear_advances x b c.requires.tracer c.destination_burst-burst.ensures.some.some is up low _ _ _
-    (cleared_registers x.registers b c.len-len.result is up c.len-len.ensures.value)
-    (ap (λ (n : ℕ). record x.done { cleared = x.done.cleared + n }) (c.from.ensures ∙ c.len-len.ensures.value)) cleared
+    record {
+      known = c.in_ok-need_burst.ensures.ok;
+      after = refl;
+      advances =
+          clear_advances x b c.requires.tracer c.destination_burst-burst.ensures.some.some is up low _ _ _
+          (cleared_registers x.registers b c.len-len.result is up c.len-len.ensures.value)
+          (ap (λ (n : ℕ). record x.done { cleared = x.done.cleared + n }) (c.from.ensures ∙ c.len-len.ensures.value)) cleared;
+    }

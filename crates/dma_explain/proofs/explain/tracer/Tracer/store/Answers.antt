@@ -1,4 +1,4 @@
-use Rattle.std.proofs.Common.{ℕ, ◌+◌, ap, sym, ◌∙◌, arith}
+use Rattle.std.proofs.Common.{ℕ, ◌+◌, ap, refl, sym, ◌∙◌, arith}
 use Rattle.std.proofs.lemmas.Bool.{not-false}
 use Rattle.dma_explain.specs.Items.{join_run, with_item}
 use Rattle.dma_explain.proofs.TracerBursts.{at_ok, passes_span, span_run, store_advances, stored_registers}
@@ -14,7 +14,12 @@ returns-clause-ok c =
     let low = sym (passes_span b c.span.result c.span.ensures.addr c.span.ensures.len) ∙ sym c.if-wraps.ensures in
     let written = at_ok c.push_run.result _ c.if-is_err.ensures.value c.push_run.ensures
     ∙ ap (with_item join_run x.dst.items) (span_run b span c.span-2.ensures.addr c.span-2.ensures.len) in
-    store_advances x b c.requires.tracer c.destination_burst-burst.ensures.some.some is up low _ _ _ _
-    (omega (arith, c.if-self-len.false, c.len-len.ensures.value))
-    (stored_registers x.registers b c.len-len.result is up c.len-len.ensures.value) (omega (arith, c.len-len.ensures.value))
-    (ap (λ (n : ℕ). record x.done { copied = x.done.copied + n }) (c.from.ensures ∙ c.len-len.ensures.value)) written
+    record {
+      known = c.in_ok-need_burst.ensures.ok;
+      after = refl;
+      advances =
+          store_advances x b c.requires.tracer c.destination_burst-burst.ensures.some.some is up low _ _ _ _
+          (omega (arith, c.if-self-len.false, c.len-len.ensures.value))
+          (stored_registers x.registers b c.len-len.result is up c.len-len.ensures.value) (omega (arith, c.len-len.ensures.value))
+          (ap (λ (n : ℕ). record x.done { copied = x.done.copied + n }) (c.from.ensures ∙ c.len-len.ensures.value)) written;
+    }
