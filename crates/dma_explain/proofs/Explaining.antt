@@ -1,5 +1,5 @@
 -- The run that explains a program, step after step.
-use Rattle.std.proofs.Common.{◌≡◌, ◌≢◌, ℕ, suc, ◌+◌, ◌-◌, ◌≤◌, ◌<◌, List, ◌++◌, length, length-append, Some, None, Result, Ok}
+use Rattle.std.proofs.Common.{◌≡◌, ◌≢◌, ℕ, suc, ◌+◌, ◌-◌, ◌≤◌, ◌<◌, List, ◌++◌, length, length-append, Option, Some, None, Result, Ok}
 use Rattle.std.proofs.Common.{sym, ap, ◌∙◌, subst, arith, inl, inr}
 use Rattle.std.specs.{Prelude.nat_lt, List.AllPairs}
 use Rattle.std.proofs.lemmas.Bool.{cases_lt, le-ltb, ltb-false}
@@ -13,7 +13,7 @@ use Rattle.dma_explain.specs.declared.explain.Cause.TheVariants.{TooLong}
 use Rattle.dma_explain.specs.Explains.{ExplainedOnce, Explains, Finds, FoundOnce, GoesOn, HasAddress, IsWork, RefusedUnexplained, Refuses, StopsAt, Trace, Work}
 use Rattle.dma_explain.specs.Explains.{after_fetch, after_insn, all_of, amounts_of, bursts_in, cleared, counted, events_in, happening_of, has_twice, held}
 use Rattle.dma_explain.specs.Explains.{items_in, items_of, next_in, stop_of, stop_of_insn, stop_of_lists, traced, unrolled, work_of, written, written_in}
-use Rattle.dma_explain.specs.Items.{Items, with_burst}
+use Rattle.dma_explain.specs.{Items.Items, Items.with_burst, Late.late_after, Late.late_in}
 use Rattle.dma_explain.specs.inner.Tracing.{Advances, AreItems, CountsOf, Follows, IsCopied, IsNew, Leads, Reaches, lists_of, total_of, trace_of}
 use Rattle.dma_explain.specs.{declared.explain.BurstCounts.BurstCounts, declared.explain.Cause.Cause}
 use Rattle.dma_explain.specs.{declared.explain.Explained.Explained, declared.explain.Happening.Happening, declared.explain.tracer.Tracer.Tracer}
@@ -66,6 +66,19 @@ reaches_on {start} {program} {n} {z} i w e other stops =
           ∙ ap (bursts_in start program) (sym number);
     }
 
+-- the first instruction that moves the destination too late, with one more instruction
+pub late_on : (start : Registers) (program : List ℕ) (n : ℕ) (z : Trace) (i : ChipInsn) (before after : Option ℕ) → z ≡ traced start program n
+    → next_in program (traced start program n) ≡ Ok i → before ≡ late_in start program n → after ≡ late_after (Ok i) z before
+    → after ≡ late_in start program (n + 1)
+late_on start program n z i before after trace next was is =
+    let here = traced start program n in
+    let number : suc n ≡ n + 1 = omega arith in
+    is
+    ∙ ap (λ (x : Trace). late_after (Ok i) x before) trace
+    ∙ ap (late_after (Ok i) here) was
+    ∙ ap (λ r. late_after r here (late_in start program n)) (sym next)
+    ∙ ap (late_in start program) number
+
 pub follows_on : (program : List ℕ) (x y : Tracer) (i : ChipInsn) → Ok i ≡ next_on x.registers.bus program x.registers.pc → i ≢ End
     → Advances i x y → y.registers.pc ≤ x.registers.pc + length (spelling i) → total_of y ≤ total_of x + 256 → Leads program 1 x y
 follows_on program x y i e other a jump more start n w =
@@ -89,6 +102,7 @@ follows_on program x y i e other a jump more start n w =
       pc = omega (arith, fits, jump);
       stored = omega (arith, w.stored, more);
       counts = grows_one (Ok i) n x.bursts y.bursts w.counts a.bursts;
+      late = late_on start program n (trace_of x) i x.late y.late w.reaches.trace (next_here start program n x (Ok i) w e) w.late a.late;
     }
   where
     grows_one : (r : Result ChipInsn FaultKind) (n : ℕ) (b c : BurstCounts) → CountsOf n b → c ≡ counted r b → CountsOf (n + 1) c
@@ -162,6 +176,13 @@ finds start program n count x y w e few most less is c =
 pub counts_bursts : (start : Registers) (program : List ℕ) (n count : ℕ) (x : Tracer) (y : Explained) → Follows start program n x → count ≡ n + 1
     → IsCopied x count y → y.bursts ≡ bursts_in start program (y.steps - 1)
 counts_bursts start program n count x y w is c = grind arith
+
+-- and so is its first instruction that moves the destination too late
+pub counts_late : (start : Registers) (program : List ℕ) (n count : ℕ) (x : Tracer) (y : Explained) → Follows start program n x → count ≡ n + 1
+    → IsCopied x count y → y.late ≡ late_in start program (y.steps - 1)
+counts_late start program n count x y w is c =
+    let all : n ≡ y.steps - 1 = omega (arith, c.steps, is) in
+    c.late ∙ w.late ∙ ap (late_in start program) all
 
 -- ---- refusals
 

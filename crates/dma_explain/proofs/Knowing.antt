@@ -168,6 +168,7 @@ over_advances k s i x y h none a =
       events = a.events;
       lists = a.lists ∙ sym (w.items (lists_of x));
       bursts = a.bursts;
+      late = a.late;
     }
 
 pub over_follows : (s : Registers) (program : List ℕ) (x y : Tracer) (i : ChipInsn) → IsTracer x → Ok i ≡ next_on x.registers.bus program x.registers.pc
@@ -277,6 +278,7 @@ over_new given s program x m h =
       events = h.events;
       lists = h.lists;
       bursts = h.bursts;
+      late = h.late;
     })
 
 -- ---- further instructions
@@ -298,5 +300,6 @@ over_copied k s x count y c = record {
   events = c.events;
   steps = c.steps;
   bursts = c.bursts;
+  late = c.late;
   ends = c.ends;
 }

@@ -74,6 +74,7 @@ module _ (x : Tracer) (b : Burst) (h : IsTracer x) (some : MovesSome b) where
         events = sym (append-nil x.events.items);
         lists = lists ∙ ap (λ (c : Burst). record (lists_of x) { reads = with_item join_read x.src.items (read_of c) }) is;
         bursts = refl;
+        late = refl;
       }
 
   -- a store that continues
@@ -102,6 +103,7 @@ module _ (x : Tracer) (b : Burst) (h : IsTracer x) (some : MovesSome b) where
           events = sym (append-nil x.events.items);
           lists = lists ∙ ap (λ (c : Burst). record (lists_of x) { writes = with_item join_run x.dst.items (run_of c) }) is;
           bursts = refl;
+          late = refl;
         }
 
     pub clear_advances : (after : Registers) (done : Amounts) (zeros : Vec Segment Global) → after ≡ moved StoreZeros x.registers
@@ -126,6 +128,7 @@ module _ (x : Tracer) (b : Burst) (h : IsTracer x) (some : MovesSome b) where
           events = sym (append-nil x.events.items);
           lists = lists ∙ ap (λ (c : Burst). record (lists_of x) { zeros = with_item join_run x.zeros.items (run_of c) }) is;
           bursts = refl;
+          late = refl;
         }
 
 -- ---- what a tracer's instructions know

@@ -11,6 +11,7 @@ use Rattle.dma_chan.specs.declared.turn.ChanTurn.TheVariants.{Moved, Fault}
 use Rattle.dma_chan.specs.{declared.exec.Registers.Registers, declared.turn.ChanTurn.ChanTurn, declared.turn.FaultKind.FaultKind}
 use Rattle.dma_chan.specs.{Bursts.drops, inner.Acts.SetsKeeping}
 use Rattle.dma_explain.specs.Explains.{Trace, after_insn, amounts_of, counted, happening_of, held, stop_of_insn}
+use Rattle.dma_explain.specs.Late.{late_after}
 use Rattle.dma_explain.specs.inner.Tracing.{Advances, IsTracer, Stops, lists_of, trace_of}
 use Rattle.dma_explain.specs.{declared.explain.BurstCounts.BurstCounts, declared.explain.known.Known.Known}
 use Rattle.dma_explain.specs.{declared.explain.Amounts.Amounts, declared.explain.Cause.Cause, declared.explain.Cause.TheVariants.DropsBytes}
@@ -103,7 +104,7 @@ abbrev drops_in : Tracer → ℕ → Registers → Bool
 drops_in x n r = nat_lt 0 n && drops x.registers.bus (destination_of x.registers) (destination_of r)
 
 module _ (i : ChipInsn) (x : Tracer) (after : Registers) (turn : ChanTurn) (q : IsQuiet i) (h : IsTracer x) (sets : SetsAlone i x.registers turn after)
-    (known : Known) where
+    (known : Known) (late : Option ℕ) (same : late ≡ late_after (Ok i) (trace_of x) x.late) where
   abbrev z : Trace
   z = trace_of x
 
@@ -119,22 +120,22 @@ module _ (i : ChipInsn) (x : Tracer) (after : Registers) (turn : ChanTurn) (q : 
   stops_if : NoFault turn → (b : Bool) → drops_by i z ≡ b → stop_of_insn i z ≡ cond b (Some DropsBytes) None
   stops_if none b e = answer.stop_is ∙ ap (λ (t : ChanTurn). stopped t (drops_by i z)) (answer.moves none) ∙ ap (λ (d : Bool). cond d (Some DropsBytes) None) e
 
-  advances : NoFault turn → drops_by i z ≡ false → Advances i x (record x { registers = after; known = known })
+  advances : NoFault turn → drops_by i z ≡ false → Advances i x (record x { registers = after; known = known; late = late })
   advances none keeps = grind (arith, is_quiet, stops_if, append-nil)
 
   -- DMAMOV, DMAADDH and DMAADNH, if the bytes in the buffer are dropped or not
   tested : drops_by i z ≡ dropped i z → NoFault turn → (b : Bool) → drops_in x x.held after ≡ b → drops_by i z ≡ b
   tested may none b e = may ∙ ap (λ (n : ℕ). drops_in x n (moved i x.registers)) (sym h.held) ∙ ap (drops_in x x.held) (sym (to none)) ∙ e
 
-  pub keeps : drops_by i z ≡ dropped i z → NoFault turn → drops_in x x.held after ≡ false → Advances i x (record x { registers = after; known = known })
+  pub keeps : drops_by i z ≡ dropped i z → NoFault turn → drops_in x x.held after ≡ false → Advances i x (record x { registers = after; known = known; late = late })
   keeps may none e = advances none (tested may none false e)
 
   pub loses : drops_by i z ≡ dropped i z → NoFault turn → drops_in x x.held after ≡ true → stop_of_insn i z ≡ Some DropsBytes
   loses may none e = stops_if none true (tested may none true e)
 
   -- the others
-  pub on_ok : {X : Type 0} (done : Result X Cause) → drops_by i z ≡ false → OnOk done (NoFault turn) → OnOk done (Advances i x (record x { registers = after; known = known }))
-  on_ok done keeps = on_ok_weaker {P = NoFault turn} {Q = Advances i x (record x { registers = after; known = known })} done (λ none. advances none keeps)
+  pub on_ok : {X : Type 0} (done : Result X Cause) → drops_by i z ≡ false → OnOk done (NoFault turn) → OnOk done (Advances i x (record x { registers = after; known = known; late = late }))
+  on_ok done keeps = on_ok_weaker {P = NoFault turn} {Q = Advances i x (record x { registers = after; known = known; late = late })} done (λ none. advances none keeps)
 
   pub on_err : {X : Type 0} (done : Result X Cause) → IfErr done (λ cause. FaultIs turn cause) → IfErr done (λ cause. Stops i x cause)
   on_err done = grind (arith, IfErr-weaker)
@@ -143,6 +144,7 @@ module _ (i : ChipInsn) (x : Tracer) (after : Registers) (turn : ChanTurn) (q : 
 
 -- an instruction is one of them
 record Syncs (i : ChipInsn) (z : Trace) : Type 0 where
+  late : (before : Option ℕ) → before ≡ late_after (Ok i) z before
   bursts : (b : BurstCounts) → b ≡ counted (Ok i) b
   goes : stop_of_insn i z ≡ None
   trace : record z { registers = past i z.registers } ≡ after_insn i z
@@ -152,8 +154,8 @@ abbrev pub Happens : ChipInsn → EventSync → Type 0
 Happens i s = (done : Amounts) → happening_of (Ok i) done ≡ record { sync = s; done = done } ∷ []
 
 syncs : (i : ChipInsn) (s : EventSync) (z : Trace) → Happens i s → Syncs i z
-syncs (Wfe e v) s z h = record { bursts = λ b. refl; goes = refl; trace = refl; items = λ x. refl }
-syncs (Sev e) s z h = record { bursts = λ b. refl; goes = refl; trace = refl; items = λ x. refl }
+syncs (Wfe e v) s z h = record { late = λ before. refl; bursts = λ b. refl; goes = refl; trace = refl; items = λ x. refl }
+syncs (Sev e) s z h = record { late = λ before. refl; bursts = λ b. refl; goes = refl; trace = refl; items = λ x. refl }
 syncs i s z h =
     let none : Amounts = record { copied = 0; cleared = 0 } in
     absurd (let bad : [] ≡ record { sync = s; done = none } ∷ [] = h none in cc)
@@ -173,4 +175,5 @@ happen_advances i s x after events h is registers pushed =
           ∙ ap (λ (es : List Happening). x.events.items ++ es) (sym (is (amounts_of (trace_of x))));
       lists = w.items (lists_of x);
       bursts = w.bursts x.bursts;
+      late = w.late x.late;
     }

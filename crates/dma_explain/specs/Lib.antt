@@ -3,6 +3,7 @@ pub mod Items
 pub mod Explains
 pub mod Uses
 pub mod Known
+pub mod Late
 pub mod OnBuses
 pub mod Works
 pub mod Alone

@@ -7,6 +7,7 @@ ghost use Rattle.dma_insn.specs.declared.chip.ChipInsn.TheVariants.{End};
 ghost use Rattle.dma_mem.specs.Places.{places};
 ghost use Rattle.dma_explain.specs.Explains.{Finds, HasAddress, Refuses, bursts_in, unrolled, written_in};
 ghost use Rattle.dma_explain.specs.Known.{FindsFrom, MayBegin, RefusesFrom};
+ghost use Rattle.dma_explain.specs.Late.{late_in};
 ghost use Rattle.dma_explain.specs.inner.Tracing.{IsCopied, IsTracer, Stops, trace_of};
 
 pub mod known;
@@ -81,6 +82,9 @@ pub struct Explained {
     pub steps: u32,
     /// How many of them are bursts.
     pub bursts: BurstCounts,
+    /// The offset of the first DMAMOV, DMAADDH or DMAADNH that moves the destination while bytes are in the buffer. A
+    /// chip drops these bytes if that moves them to other byte lanes of its bus.
+    pub late: Option<u32>,
 }
 
 /// Why nothing explains a program. In all but `Fails`, a DMASTZ is a store too.
@@ -167,6 +171,7 @@ fn finish(alloc: Global, tracer: Tracer, steps: u32) -> Result<Explained, Stop>
         done,
         events,
         bursts,
+        late,
         ..
     } = tracer;
     Ok(Explained {
@@ -177,6 +182,7 @@ fn finish(alloc: Global, tracer: Tracer, steps: u32) -> Result<Explained, Stop>
         events,
         steps,
         bursts,
+        late,
     })
 }
 
@@ -197,6 +203,7 @@ pub fn explain(
 ) -> Result<Explained, Unexplained>
     ensures ok { IfOk result (λ x. Finds start program.now most x) }
     ensures bursts { IfOk result (λ x. x.bursts ≡ bursts_in start program.now (x.steps - 1)) }
+    ensures late { IfOk result (λ x. x.late ≡ late_in start program.now (x.steps - 1)) }
     ensures err { IfErr result (λ u. u.cause ≢ Cause.NoMemory → u.cause ≢ Cause.TooLong
         → Refuses start program.now most u) }
     ensures long { IsErrAnd result (λ u. u.cause ≡ Cause.TooLong)
@@ -217,6 +224,8 @@ pub fn explain_from(
     ensures ok { IfOk result (λ x. FindsFrom given program.now most x) }
     ensures bursts { IfOk result (λ x. (start : Registers) → MayBegin given start
         → x.bursts ≡ bursts_in start program.now (x.steps - 1)) }
+    ensures late { IfOk result (λ x. (start : Registers) → MayBegin given start
+        → x.late ≡ late_in start program.now (x.steps - 1)) }
     ensures err { IfErr result (λ u. u.cause ≢ Cause.NoMemory → u.cause ≢ Cause.TooLong
         → RefusesFrom given program.now most u) }
     ensures long { IsErrAnd result (λ u. u.cause ≡ Cause.TooLong)

@@ -4,7 +4,7 @@ use Rattle.dma_explain.specs.declared.explain.Cause.TheVariants.{Fails, NoEnd}
 use Rattle.dma_chan.specs.declared.exec.Registers.{Registers}
 use Rattle.dma_explain.specs.{Known.MayBegin, Known.RefusesFrom, declared.explain.Unexplained.Unexplained, inner.Tracing.Follows, inner.Tracing.trace_of}
 use Rattle.dma_explain.specs.inner.Knowing.{known_after, over_in}
-use Rattle.dma_explain.proofs.Explaining.{counts_bursts, finds, refuses, stops_here}
+use Rattle.dma_explain.proofs.Explaining.{counts_bursts, counts_late, finds, refuses, stops_here}
 use Rattle.dma_explain.proofs.Knowing.{begins_given, keeps_over, leads_on, over_copied, over_new, stays_known}
 use Rattle.dma_explain.proofs.RefusedKnowing.{halts_short, refused_for, refused_here, stops_unknown}
 use Rattle.dma_explain.proofs.explain.explain_from.Goals as goal
@@ -37,6 +37,13 @@ returns-in-Ok-finish-clause-bursts c = λ start may.
     let now = c.loop-steps in
     let x = now.tracer in
     counts_bursts start c.args.program.now now.steps (now.steps + 1) (over_in x.known start x) c.in-Ok-finish.explained (now.invariant.follows start may)
+    refl (over_copied x.known start x (now.steps + 1) c.in-Ok-finish.explained c.in-Ok-finish.ensures.ok)
+
+pub returns-in-Ok-finish-clause-late : goal.returns-in-Ok-finish-clause-late
+returns-in-Ok-finish-clause-late c = λ start may.
+    let now = c.loop-steps in
+    let x = now.tracer in
+    counts_late start c.args.program.now now.steps (now.steps + 1) (over_in x.known start x) c.in-Ok-finish.explained (now.invariant.follows start may)
     refl (over_copied x.known start x (now.steps + 1) c.in-Ok-finish.explained c.in-Ok-finish.ensures.ok)
 
 pub loop-steps-preserved : goal.loop-steps-preserved
@@ -95,6 +102,7 @@ returns-in-Err-run c =
     record {
       ok = tt;
       bursts = tt;
+      late = tt;
       err = λ memory _.
           let same = ap (λ (u : Unexplained). u.cause) c.refusal-in-Err-run.ensures in
           let all = refused_here given program c.args.most now.steps x next cause now.invariant.follows now.invariant.grows now.invariant.keeps.tracer

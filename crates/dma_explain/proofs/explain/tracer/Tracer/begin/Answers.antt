@@ -7,8 +7,8 @@ pub returns-clause-ok : goal.returns-clause-ok
 returns-clause-ok c =
     let i = Lp c.args.counter c.args.times in
     let x = c.args.self.now in
-    takes_if i x _ c.done.result refl c.with_counter-self.ensures
-    (on_ok i x c.begin_loop.new.registers c.begin_loop.result tt c.requires.tracer (c.begin_loop.ensures.exact [] [] [] []) c.with_counter-self.result
+    takes_if i x _ c.done.result refl c.add_counter.ensures
+    (on_ok i x c.begin_loop.new.registers c.begin_loop.result tt c.requires.tracer (c.begin_loop.ensures.exact [] [] [] []) c.add_counter.new.self x.late refl
     c.done.result refl c.done.ensures.ok)
 
 pub returns-clause-err : goal.returns-clause-err
@@ -16,5 +16,5 @@ returns-clause-err c =
     let i = Lp c.args.counter c.args.times in
     let x = c.args.self.now in
     halts_if i x c.done.result refl
-    (on_err i x c.begin_loop.new.registers c.begin_loop.result tt c.requires.tracer (c.begin_loop.ensures.exact [] [] [] []) c.with_counter-self.result
+    (on_err i x c.begin_loop.new.registers c.begin_loop.result tt c.requires.tracer (c.begin_loop.ensures.exact [] [] [] []) c.add_counter.new.self x.late refl
     c.done.result c.done.ensures.err)

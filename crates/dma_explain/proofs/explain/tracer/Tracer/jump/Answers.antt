@@ -10,7 +10,7 @@ returns-clause-ok c =
     let x = c.args.self.now in
     let none : lacks i x ≡ None = subst (λ (r : Register). first_unknown x.known (r ∷ []) ≡ None) c.register_of.ensures c.in_ok-need.ensures.ok in
     takes_if i x _ c.done.result none refl
-    (on_ok i x c.end_loop.new.registers c.end_loop.result tt c.requires.tracer (c.end_loop.ensures.exact [] [] [] []) x.known c.done.result refl
+    (on_ok i x c.end_loop.new.registers c.end_loop.result tt c.requires.tracer (c.end_loop.ensures.exact [] [] [] []) x.known x.late refl c.done.result refl
     c.done.ensures.ok)
 
 pub returns-clause-err : goal.returns-clause-err
@@ -19,5 +19,5 @@ returns-clause-err c =
     let x = c.args.self.now in
     let none : lacks i x ≡ None = subst (λ (r : Register). first_unknown x.known (r ∷ []) ≡ None) c.register_of.ensures c.in_ok-need.ensures.ok in
     halts_if i x c.done.result none
-    (on_err i x c.end_loop.new.registers c.end_loop.result tt c.requires.tracer (c.end_loop.ensures.exact [] [] [] []) x.known c.done.result
+    (on_err i x c.end_loop.new.registers c.end_loop.result tt c.requires.tracer (c.end_loop.ensures.exact [] [] [] []) x.known x.late refl c.done.result
     c.done.ensures.err)
