@@ -78,7 +78,12 @@ module _ (n most : ℕ) (code : ℤ) (before after : Outputs) where
       explains_so code before after (Finds start program most) (Refuses start program most) (Ok x) finds tt tt h) ok))
   explains_channel d (Err NoChannel) ok err h = inl (h.0, err, h.1)
   explains_channel d (Err NoProgram) ok err h = inr (inl (h.0, err.0, err.1, h.1))
-  explains_channel d (Err (Unexplained u)) ok err h = grind (arith, inr, with_program, explains_so)
+  explains_channel d (Err (Unexplained u)) ok err h =
+      inr (inr (with_program (channel_of d n)
+      (λ start program. (u.cause ≢ TooLong) × (u.cause ≢ NoMemory → Refuses start program most u))
+      (λ start program. ExplainsSo (Finds start program most) (Refuses start program most) code before after)
+      (λ start program refuses.
+      explains_so code before after (Finds start program most) (Refuses start program most) (Err u) tt refuses.0 refuses.1 h) err))
 
   pub explains_on_device : (old new : Option DeviceValue) (d : DeviceValue) (found : Result Explained ExplainFault) → Some d ≡ old → new ≡ Some d
       → IfOk found (λ x. FindsFor d n most x) → IfErr found (λ fault. FailsFor d n most fault) → AnswersDevice found code before after
