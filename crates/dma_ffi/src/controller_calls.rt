@@ -9,8 +9,8 @@ ghost use Rattle.dma_ffi.specs.Requests.{Opens, Returns, a_conflict, a_number, a
 ghost use Rattle.dma_ffi.specs.inner.Submits.{Submits};
 
 use crate::codes::{
-    ALREADY_OPEN, BAD_ACCESS, NO_MEMORY, NO_RESULT, NOT_OPEN, NOT_RUNNING, OK, answered, code_of_new,
-    code_of_status, code_of_transfer, done, event_of, found, kind_of,
+    ALREADY_OPEN, BAD_ACCESS, NO_MEMORY, NO_RESULT, NOT_OPEN, NOT_RUNNING, OK, answered,
+    code_of_new, code_of_status, code_of_transfer, done, event_of, found, kind_of,
 };
 use crate::controller::Controller;
 use crate::reports::{DmaConflict, DmaOutcome, DmaReport, done_unless, outcome_of, report_of};

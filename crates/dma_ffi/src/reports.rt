@@ -5,8 +5,8 @@ ghost use Rattle.dma_ffi.specs.Codes.{answer_code};
 ghost use Rattle.dma_ffi.specs.Reports.{conflict_of, did, end_of, ended, outcome_of, report_of};
 
 use crate::codes::{
-    FINISHED, HALTED, HELD, MOVED, NO_STEP, NOTHING, PAUSED, STARTED, WAITING, done, number_of_kind,
-    number_of_result,
+    FINISHED, HALTED, HELD, MOVED, NO_STEP, NOTHING, PAUSED, STARTED, WAITING, done,
+    number_of_kind, number_of_result,
 };
 use crate::steps::StepsTaken;
 use dma_chan::run::RunEnd;
