@@ -2,8 +2,9 @@
 #
 #     awk -v name=dma330 -v section=1 -v about=.. -v version=1.0.0 -f roff.awk -f document.awk DMA330.md
 #
-# It reads the parts of Markdown that the documents use: headings, paragraphs, lists, indented code, and within a line
-# `code`, **bold**, *slanted* and [links](..). A paragraph that begins with a command line adds it to the synopsis.
+# It reads the parts of Markdown that the documents use: headings, paragraphs, lists, indented code, pictures, and within
+# a line `code`, **bold**, *slanted* and [links](..). A paragraph that begins with a command line adds it to the
+# synopsis. Of a picture it prints the alternative text, and which file it is.
 
 # code TEXT: a text as it is, also after copy and paste
 function code(text) {
@@ -49,6 +50,12 @@ function inline(text, parts, count, number, middle, found) {
     return found
 }
 
+# picture TEXT: the text of a paragraph that is a picture
+function picture(text, middle) {
+    middle = index(text, "](")
+    return "(Picture docs/" substr(text, middle + 2, length(text) - middle - 2) ": " substr(text, 3, middle - 3) ")"
+}
+
 # put TEXT: adds lines to the page
 function put(text) {
     page = page text "\n"
@@ -62,7 +69,9 @@ function end_paragraph(text) {
         return
     if (match(text, "^`" name " [^`]*`"))
         synopsis = synopsis ".B " code(substr(text, 2, RLENGTH - 2)) "\n"
-    if (sub(/^- /, "", text))
+    if (text ~ /^!\[/)
+        put(".PP\n" inline(picture(text)))
+    else if (sub(/^- /, "", text))
         put(".IP \\(bu 2\n" inline(text))
     else if (match(text, /^[0-9]+\. /))
         put(".IP " substr(text, 1, RLENGTH - 1) " 3\n" inline(substr(text, RLENGTH + 1)))
