@@ -15,3 +15,10 @@ mod OneLine
 mod Columns
 mod OneDump
 mod Rows
+mod Runs
+mod ReadBack
+mod DumpDigits
+mod DumpLines
+mod DumpTexts
+mod PlainAddresses
+mod Canonical

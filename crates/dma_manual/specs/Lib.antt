@@ -16,3 +16,5 @@ pub mod Forms
 pub mod Array
 pub mod Dump
 pub mod Pasted
+pub mod Printed
+pub mod PrintedLaws

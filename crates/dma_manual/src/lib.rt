@@ -37,6 +37,7 @@ pub mod notes;
 mod operands;
 mod other_lines;
 pub mod pasted;
+pub mod printed;
 pub mod refusal;
 mod remarks;
 mod shown;
