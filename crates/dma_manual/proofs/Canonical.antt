@@ -9,7 +9,7 @@ use Rattle.dma_manual.specs.declared.dump.Effect.TheVariants.{Nothing}
 use Rattle.dma_manual.specs.declared.dump.Place.TheVariants.{Start, Address, Gap, Text}
 use Rattle.dma_manual.specs.declared.forms.Column.TheVariants.{Hex}
 use Rattle.dma_manual.specs.declared.forms.Group.TheVariants.{Byte}
-use Rattle.dma_manual.specs.Printed.{canonical_line, characters, hexdump_canonical, lines_from, padded, parts, places, spaced_pairs}
+use Rattle.dma_manual.specs.Printed.{canonical_line, characters, hexdump_canonical, lines_from, padding, parts, places, spaced_pairs}
 use Rattle.dma_manual.proofs.Runs.{Goes, at, at_same, goes_step, goes_then, read_whole}
 use Rattle.dma_manual.proofs.DumpDigits.{HasPlaces, address_first, address_places}
 use Rattle.dma_manual.proofs.DumpLines.{ArePartsOf, AreBytes, IsPart, LineTo, ReadsLines, bytes_drop, bytes_take, dump_read, parts_are}
@@ -35,8 +35,11 @@ gap_bar s bytes (Some true) = refl
 gap_bar s bytes (Some false) = refl
 
 -- the bytes of a line
+abbrev gapped : List ℕ → List ℕ
+gapped line = let groups = spaced_pairs (take 8 line) ++ (32 ∷ spaced_pairs (drop 8 line)) in groups ++ padding 49 groups
+
 groups_read : (s : Scan) (bytes line : List ℕ) → AreBytes line → length bytes + length line ≤ 1048576
-    → ToGap bytes_form (at s Gap) s bytes (padded 49 (spaced_pairs (take 8 line) ++ (32 ∷ spaced_pairs (drop 8 line)))) (bytes ++ line)
+    → ToGap bytes_form (at s Gap) s bytes (gapped line) (bytes ++ line)
 groups_read s bytes line are fits =
     let low = take 8 line in
     let high = drop 8 line in
@@ -52,10 +55,10 @@ groups_read s bytes line are fits =
     let two = spaced_read Hex s high found (spaced one.o) refl (bytes_drop 8 line are) (omega arith) in
     let groups = then_gap one.goes (then_gap space two) in
     let rest = spaces_read bytes_form s (found ++ high) (49 - length text) groups.o (omega arith) in
-    subst (λ (l : List ℕ). ToGap bytes_form (at s Gap) s bytes (padded 49 text) l) (append_assoc bytes low high ∙ ap (λ (l : List ℕ). bytes ++ l) all)
+    subst (λ (l : List ℕ). ToGap bytes_form (at s Gap) s bytes (gapped line) l) (append_assoc bytes low high ∙ ap (λ (l : List ℕ). bytes ++ l) all)
     (then_gap groups.goes rest)
 
-line_read : ReadsLines bytes_form canonical_line 16 (2 ^ 32)
+line_read : ReadsLines bytes_form canonical_line 16 1 (2 ^ 32)
 line_read s bytes a f part start on first is_part fits below =
     let u = in_line s (length bytes) a Gap in
     let found = bytes ++ part in
@@ -77,13 +80,14 @@ line_read s bytes a f part start on first is_part fits below =
       first = ap (λ (n : ℕ). Some n) first;
     }
 
-pub hexdump_is_read_back : HexdumpIsReadBack
-hexdump_is_read_back bytes dumped =
-    let are : ArePartsOf 16 bytes (parts 16 bytes) = parts_are 16 [] bytes (omega arith) (λ k. omega arith) dumped.each in
+pub canonical_is_read_back : (bytes : List ℕ) → IsDumped bytes → IsOrUnsure bytes (pasted Dump (hexdump_canonical bytes))
+canonical_is_read_back bytes dumped =
+    let are : ArePartsOf 16 1 bytes (parts 16 bytes) =
+    parts_are 16 1 [] bytes (omega arith) refl (omega arith) (λ k. omega arith) dumped.each in
     let some = dumped.some in
     let most = dumped.most in
     let n = length bytes in
-    let all = dump_read bytes_form canonical_line 16 (2 ^ 32) line_read 0 (begun bytes_form) (parts 16 bytes) bytes refl refl are some most (omega arith) in
+    let all = dump_read bytes_form canonical_line 16 1 (2 ^ 32) line_read 0 (begun bytes_form) (parts 16 bytes) bytes refl refl are some most (omega arith) in
     let s = all.next in
     let last = address_read s bytes n most (omega arith) in
     let none = drop_all n bytes (omega arith) in

@@ -42,7 +42,7 @@ last_digit r n some most =
 only_digit : (r n : ℕ) → 0 < r → r ≤ 16 → n < r → IsDigit (digit_glyph false (n % r)) n
 only_digit r n some most small = subst (λ (d : ℕ). IsDigit (digit_glyph false (n % r)) d) (mod-eq_of_lt small) (last_digit r n some most)
 
-one_more : (r n : ℕ) → n / r < 2 ^ 60 → n / r % 2 ^ 60 * r + n % r ≡ n
+pub one_more : (r n : ℕ) → n / r < 2 ^ 60 → n / r % 2 ^ 60 * r + n % r ≡ n
 one_more r n small =
     let same : n / r % 2 ^ 60 ≡ n / r = mod-eq_of_lt small in
     ap (λ (q : ℕ). q * r + n % r) same ∙ div-add-mod' n r
@@ -91,7 +91,7 @@ module _ (form : Form) (from s : Scan) (bytes : List ℕ) (r c : ℕ) (first : F
 abbrev pub group_radix : Bool → ℕ
 group_radix octal = if octal then 8 else 16
 
-group_effect : (form : Form) (s : Scan) (bytes : List ℕ) (m : Bool) (b d k v size : ℕ) (octal : Bool) → IsDigit b d → is_octal form.group ≡ octal
+pub group_effect : (form : Form) (s : Scan) (bytes : List ℕ) (m : Bool) (b d k v size : ℕ) (octal : Bool) → IsDigit b d → is_octal form.group ≡ octal
     → digits_of form.group ≡ size → k < size → d < group_radix octal
     → next_of form (at s (Group m k v)) bytes b
     ≡ Ok (at s (Group m (k + 1) (v % 2 ^ 60 * group_radix octal + d)), if eqb (k + 1) size then Number (v % 2 ^ 60 * group_radix octal + d) else Nothing)

@@ -30,6 +30,12 @@ gap_digit form s bytes (Some false) octal plain radix b d digit small =
 gap_digit form s bytes (Some true) octal plain radix b d digit small =
     rw (digit.no_return, digit.no_space, digit.no_tab, plain, digit.no_feed, radix, digit.value, lt-ltb d (group_radix octal) small) refl
 
+-- after a group and a space, in any form
+pub behind_digit : (form : Form) (s : Scan) (bytes : List ℕ) (octal : Bool) → is_octal form.group ≡ octal
+    → FirstOfGroup form (at s (Behind false)) s bytes false octal
+behind_digit form s bytes octal radix b d digit small =
+    rw (digit.no_return, digit.no_space, digit.no_tab, digit.no_feed, radix, digit.value, lt-ltb d (group_radix octal) small) refl
+
 abbrev pub spaced : Option Bool → Option Bool
 spaced None = None
 spaced (Some wide) = Some true
@@ -54,7 +60,7 @@ spaces_read form s bytes (suc n) o fits =
     then_gap (goes_step form (at s (gap o)) (at s (gap (spaced o))) bytes 32 fits (gap_space form s bytes o)) (spaces_read form s bytes n (spaced o) fits)
 
 -- pairs of digits, each with a space after it
-pair_made : (bytes : List ℕ) (x : ℕ) → x < 256 → bytes ++ (x % 256 ∷ []) ≡ bytes ++ x ∷ []
+pub pair_made : (bytes : List ℕ) (x : ℕ) → x < 256 → bytes ++ (x % 256 ∷ []) ≡ bytes ++ x ∷ []
 pair_made bytes x small = ap (λ (b : ℕ). bytes ++ b ∷ []) (mod-eq_of_lt small)
 
 pub spaced_read : (column : Column) (s : Scan) (xs bytes : List ℕ) (o : Option Bool) → has_spaced_text column ≡ false → AreBytes xs
@@ -86,7 +92,7 @@ character_read : (form : Form) (s : Scan) (bytes line : List ℕ) (k c b : ℕ) 
 character_read form s bytes line k c b no_return no_feed shown is here within =
     rw (no_return, no_feed, is, here, eq-eqb b (shown_as c) shown, lt-ltb k (length line) within) refl
 
-at_front : (xs ys : List ℕ) (y : ℕ) → slice_get (xs ++ y ∷ ys) (length xs) ≡ Some y
+pub at_front : (xs ys : List ℕ) (y : ℕ) → slice_get (xs ++ y ∷ ys) (length xs) ≡ Some y
 at_front [] ys y = refl
 at_front (x ∷ xs) ys y = at_front xs ys y
 

@@ -20,5 +20,11 @@ mod ReadBack
 mod DumpDigits
 mod DumpLines
 mod DumpTexts
+mod DumpGroups
 mod PlainAddresses
 mod Canonical
+mod PlainDumps
+mod SpacedTexts
+mod ColonDumps
+mod MarkedDumps
+mod ToolRows

@@ -1,7 +1,8 @@
 -- What tools print of bytes, by their manuals.
 use Rattle.std.specs.Prelude.{ℕ, zero, suc, ◌+◌, ◌-◌, ◌*◌, ◌/◌, ◌%◌, ◌==◌, false, nat_lt, if◌then◌else◌, List, [], ◌∷◌, ◌++◌, codes, drop, flat_map, length, map, replicate, take}
 use Rattle.std.specs.Fmt.{digit_glyph}
-use Rattle.dma_manual.specs.Dump.{shown_as}
+use Rattle.dma_manual.specs.{Dump.shown_as, Forms.digits_of, Forms.is_octal, Forms.size_of, declared.forms.Group.Group}
+use Rattle.dma_manual.specs.declared.forms.Group.TheVariants.{Half}
 
 -- the last k digits of a number in a radix: printf's `%08x` for k = 8 and 16, if the number has no more
 unfoldable pub places : ℕ → ℕ → ℕ → List ℕ
@@ -28,9 +29,9 @@ abbrev pub number_of : List ℕ → ℕ
 number_of [] = 0
 number_of (b ∷ bytes) = b + 256 * number_of bytes
 
--- a text with spaces after it, so that it has n characters
-abbrev pub padded : ℕ → List ℕ → List ℕ
-padded n text = text ++ replicate (n - length text) 32
+-- the spaces that a text lacks to n characters
+abbrev pub padding : ℕ → List ℕ → List ℕ
+padding n text = replicate (n - length text) 32
 
 -- bytes as characters, with a dot for each that isn't printable
 abbrev pub characters : List ℕ → List ℕ
@@ -49,9 +50,90 @@ spaced_pairs bytes = flat_map (λ b. places 16 2 b ++ 32 ∷ []) bytes
 -- bytes as characters between bars.
 abbrev pub canonical_line : ℕ → List ℕ → List ℕ
 canonical_line at line =
-    (places 16 8 at ++ codes "  ")
-    ++ (padded 49 (spaced_pairs (take 8 line) ++ (32 ∷ spaced_pairs (drop 8 line))) ++ (codes " |" ++ (characters line ++ 124 ∷ 10 ∷ [])))
+    let groups = spaced_pairs (take 8 line) ++ (32 ∷ spaced_pairs (drop 8 line)) in
+    (places 16 8 at ++ codes "  ") ++ ((groups ++ padding 49 groups) ++ (codes " |" ++ (characters line ++ 124 ∷ 10 ∷ [])))
 
 -- What `hexdump -C -v` prints: the lines, and the offset of the end.
 abbrev pub hexdump_canonical : List ℕ → List ℕ
 hexdump_canonical bytes = lines_from canonical_line 0 (parts 16 bytes) ++ (places 16 8 (length bytes) ++ 10 ∷ [])
+
+-- the digits of a group of bytes, as a number whose lowest byte is the first
+abbrev pub group_digits : Group → List ℕ → List ℕ
+group_digits group part = places (if is_octal group then 8 else 16) (digits_of group) (number_of part)
+
+-- groups of bytes with a space before each
+abbrev pub spaced_groups : Group → List (List ℕ) → List ℕ
+spaced_groups group list = flat_map (λ part. 32 ∷ group_digits group part) list
+
+-- bytes with zeros after them, so that the last group is whole
+abbrev pub filled : Group → List ℕ → List ℕ
+filled group bytes = bytes ++ replicate ((size_of group - length bytes % size_of group) % size_of group) 0
+
+-- a line of offset and groups, with `pad` spaces at its end
+abbrev pub plain_line : ℕ → ℕ → Group → (List ℕ → ℕ) → ℕ → List ℕ → List ℕ
+plain_line radix k group pad at line =
+    places radix k at ++ (spaced_groups group (parts (size_of group) line) ++ (replicate (pad line) 32 ++ 10 ∷ []))
+
+-- lines of 16 bytes with the last group filled up, and the offset of the end
+abbrev pub plain_dump : ℕ → ℕ → Group → (List ℕ → ℕ) → List ℕ → List ℕ
+plain_dump radix k group pad bytes =
+    lines_from (plain_line radix k group pad) 0 (parts 16 (filled group bytes)) ++ (places radix k (length bytes) ++ 10 ∷ [])
+
+-- What `od -v -t` prints (od(1)): `-A o`, the default, and `-A d` have offsets of seven digits, `-A x` of six. `-t x1`,
+-- `x2`, `x4` and `x8` are groups of 1 to 8 bytes, `-t o2`, the default, words of 16 bits in octal.
+abbrev pub od : ℕ → ℕ → Group → List ℕ → List ℕ
+od radix k group bytes = plain_dump radix k group (λ line. 0) bytes
+
+-- What `hexdump -v` prints (hexdump(1)): words of 16 bits, and spaces in place of those that the last line lacks.
+abbrev pub hexdump : List ℕ → List ℕ
+hexdump bytes = plain_dump 16 7 Half (λ line. 40 - length (spaced_groups Half (parts 2 line))) bytes
+
+-- bytes in two digits each
+abbrev pub pairs : List ℕ → List ℕ
+pairs bytes = flat_map (λ b. places 16 2 b) bytes
+
+-- groups of pairs with a space after each
+abbrev pub paired_groups : List (List ℕ) → List ℕ
+paired_groups list = flat_map (λ part. pairs part ++ 32 ∷ []) list
+
+-- A line of `xxd -g` (xxd(1)): the offset and a colon, 16 bytes in groups of `size`, and the bytes as characters after
+-- two spaces.
+abbrev pub xxd_line : ℕ → ℕ → List ℕ → List ℕ
+xxd_line size at line =
+    let groups = paired_groups (parts size line) in
+    (places 16 8 at ++ codes ": ") ++ (groups ++ (padding (32 + 16 / size) groups ++ (32 ∷ (characters line ++ 10 ∷ []))))
+
+-- What `xxd -g` prints, for a size of groups that divides 16; it is 2 by default.
+abbrev pub xxd : ℕ → List ℕ → List ℕ
+xxd size bytes = lines_from (xxd_line size) 0 (parts 16 bytes)
+
+-- A line of U-Boot's `md` (`print_buffer` in lib/display_options.c): the address and a colon, 16 bytes in groups, and
+-- the bytes as characters after four spaces.
+abbrev pub md_line : Group → ℕ → List ℕ → List ℕ
+md_line group at line =
+    let groups = spaced_groups group (parts (size_of group) line) in
+    (places 16 8 at ++ 58 ∷ [])
+    ++ (groups ++ (padding (16 / size_of group * (digits_of group + 1)) groups ++ (codes "    " ++ (characters line ++ 10 ∷ []))))
+
+-- What `md` prints of bytes from an address on: `md.b`, `md.w`, `md.l`, which is the default, or `md.q`.
+abbrev pub md : Group → ℕ → List ℕ → List ℕ
+md group at bytes = lines_from (md_line group) at (parts 16 bytes)
+
+-- a number in hexadecimal digits without a 0 in front, if it has at most k + 1 of them: printf's `%x`
+unfoldable pub short_places : ℕ → ℕ → List ℕ
+short_places zero n = digit_glyph false n ∷ []
+short_places (suc k) n = if nat_lt n 16 then digit_glyph false n ∷ [] else short_places k (n / 16) ++ digit_glyph false (n % 16) ∷ []
+
+-- groups of bytes with a tab and `0x` before each
+abbrev pub marked_groups : Group → List (List ℕ) → List ℕ
+marked_groups group list = flat_map (λ part. 9 ∷ 48 ∷ 120 ∷ group_digits group part) list
+
+-- A line of gdb's `x/x` (Debugging with GDB, "Examining Memory"): the address with `0x`, a colon, and groups.
+abbrev pub x_line : Group → ℕ → List ℕ → List ℕ
+x_line group at line =
+    (48 ∷ 120 ∷ short_places 15 at) ++ (58 ∷ (marked_groups group (parts (size_of group) line) ++ 10 ∷ []))
+
+-- What `x/Nxb`, `x/Nxh`, `x/Nxw` and `x/Nxg` print of bytes from an address on, if no symbol is near: eight bytes in a
+-- line, or 16 in larger groups.
+abbrev pub gdb_x : Group → ℕ → List ℕ → List ℕ
+gdb_x group at bytes = lines_from (x_line group) at (parts (if size_of group == 1 then 8 else 16) bytes)
