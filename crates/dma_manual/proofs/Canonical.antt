@@ -1,18 +1,18 @@
 -- What `hexdump -C` prints is read back.
-use Rattle.std.proofs.Common.{◌≡◌, ◌∙◌, ap, sym, subst, refl, ℕ, ◌+◌, ◌-◌, ◌/◌, ◌^◌, ◌<◌, ◌≤◌, Bool, true, false, List, [], ◌∷◌, ◌++◌, length, length-append, take, drop, Option, Some, None}
-use Rattle.std.proofs.Common.{Ok, arith, append_assoc, codes}
+use Rattle.std.proofs.Common.{◌≡◌, ◌∙◌, ap, subst, refl, ℕ, ◌+◌, ◌-◌, ◌^◌, ◌<◌, ◌≤◌, Bool, true, false, List, [], ◌∷◌, ◌++◌, length, length-append, take, drop, Option, Some, None}
+use Rattle.std.proofs.Common.{Ok, arith, append_assoc}
 use Rattle.std.proofs.lemmas.List.{take-append-drop, drop_at, drop_all, take_all}
-use Rattle.dma_manual.specs.Forms.{form, words_first}
-use Rattle.dma_manual.specs.{Dump.next_of, PrintedLaws.HexdumpIsReadBack, PrintedLaws.IsDumped, PrintedLaws.IsOrUnsure}
+use Rattle.dma_manual.specs.Forms.{form}
+use Rattle.dma_manual.specs.{Dump.next_of, PrintedLaws.IsDumped, PrintedLaws.IsOrUnsure}
 use Rattle.dma_manual.specs.{declared.dump.Scan.Scan, declared.forms.Form.Form, Pasted.begun, Pasted.pasted, declared.pasted.Spelling.TheVariants.Dump}
 use Rattle.dma_manual.specs.declared.dump.Effect.TheVariants.{Nothing}
 use Rattle.dma_manual.specs.declared.dump.Place.TheVariants.{Start, Address, Gap, Text}
 use Rattle.dma_manual.specs.declared.forms.Column.TheVariants.{Hex}
 use Rattle.dma_manual.specs.declared.forms.Group.TheVariants.{Byte}
-use Rattle.dma_manual.specs.Printed.{canonical_line, characters, hexdump_canonical, lines_from, padding, parts, places, spaced_pairs}
+use Rattle.dma_manual.specs.Printed.{canonical_line, hexdump_canonical, padding, parts, places, spaced_pairs}
 use Rattle.dma_manual.proofs.Runs.{Goes, at, at_same, goes_step, goes_then, read_whole}
 use Rattle.dma_manual.proofs.DumpDigits.{HasPlaces, address_first, address_places}
-use Rattle.dma_manual.proofs.DumpLines.{ArePartsOf, AreBytes, IsPart, LineTo, ReadsLines, bytes_drop, bytes_take, dump_read, parts_are}
+use Rattle.dma_manual.proofs.DumpLines.{ArePartsOf, AreBytes, IsPart, ReadsLines, bytes_drop, bytes_take, dump_read, parts_are}
 use Rattle.dma_manual.proofs.DumpTexts.{ToGap, characters_read, gap, gap_space, spaced, spaced_read, spaces_read, text_ends, then_gap}
 use Rattle.dma_manual.proofs.PlainAddresses.{address_space, end_read, in_line}
 use Rattle.dma_manual.proofs.ReadBack.{read_back}
@@ -58,7 +58,7 @@ groups_read s bytes line are fits =
     subst (λ (l : List ℕ). ToGap bytes_form (at s Gap) s bytes (gapped line) l) (append_assoc bytes low high ∙ ap (λ (l : List ℕ). bytes ++ l) all)
     (then_gap groups.goes rest)
 
-line_read : ReadsLines bytes_form canonical_line 16 1 (2 ^ 32)
+line_read : ReadsLines bytes_form canonical_line (IsPart 16 1) (2 ^ 32)
 line_read s bytes a f part start on first is_part fits below =
     let u = in_line s (length bytes) a Gap in
     let found = bytes ++ part in
@@ -87,13 +87,13 @@ canonical_is_read_back bytes dumped =
     let some = dumped.some in
     let most = dumped.most in
     let n = length bytes in
-    let all = dump_read bytes_form canonical_line 16 1 (2 ^ 32) line_read 0 (begun bytes_form) (parts 16 bytes) bytes refl refl are some most (omega arith) in
+    let all = dump_read bytes_form canonical_line (IsPart 16 1) (2 ^ 32) (λ part is. is.some) line_read 0 (begun bytes_form) (parts 16 bytes) bytes refl refl are.all are.is some most (omega arith) in
     let s = all.next in
     let last = address_read s bytes n most (omega arith) in
     let none = drop_all n bytes (omega arith) in
     let end = end_read bytes_form 16 refl (omega arith) refl s bytes bytes 6 n refl refl all.first (omega arith) (omega arith) (rw none refl)
-        (take_all n bytes (omega arith)) most in
+    (take_all n bytes (omega arith)) most in
     let whole = goes_then all.goes (subst (λ (v : Scan). Goes bytes_form v bytes (places 16 8 n ++ 10 ∷ []) (record s { place = Start; is_sure = true }) bytes)
-        (at_same s Start all.start) (goes_then last end)) in
+    (at_same s Start all.start) (goes_then last end)) in
     read_back 4 bytes_form (hexdump_canonical bytes) bytes true (omega arith)
     (read_whole bytes_form (hexdump_canonical bytes) bytes (record s { place = Start; is_sure = true }) whole refl some most)

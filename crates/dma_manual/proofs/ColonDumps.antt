@@ -1,7 +1,6 @@
 -- What `xxd` and U-Boot's `md` print is read back.
-use Rattle.std.proofs.Common.{◌≡◌, ◌∙◌, ap, sym, subst, refl, ℕ, zero, suc, ◌+◌, ◌-◌, ◌*◌, ◌/◌, ◌%◌, ◌^◌, ◌<◌, ◌≤◌, Bool, true, false, List, [], ◌∷◌, ◌++◌, length, codes}
-use Rattle.std.proofs.Common.{length-append, replicate, drop, slice_index_or, Option, Some, None, Ok, arith, append_assoc}
-use Rattle.std.specs.Option.{unwrap_or}
+use Rattle.std.proofs.Common.{◌≡◌, ◌∙◌, ap, subst, refl, ℕ, zero, suc, ◌+◌, ◌-◌, ◌*◌, ◌/◌, ◌%◌, ◌^◌, ◌<◌, ◌≤◌, true, false, List, [], ◌∷◌, ◌++◌, length, codes}
+use Rattle.std.proofs.Common.{length-append, replicate, drop, slice_index_or, Some, Ok, arith, append_assoc, inl}
 use Rattle.std.proofs.Math.Nat.{mod_self}
 use Rattle.std.proofs.lemmas.Bool.{lt-ltb}
 use Rattle.std.proofs.lemmas.List.{drop_at}
@@ -14,12 +13,12 @@ use Rattle.dma_manual.specs.declared.dump.Place.TheVariants.{Start, Address, Beh
 use Rattle.dma_manual.specs.declared.forms.Column.TheVariants.{Colon}
 use Rattle.dma_manual.specs.declared.forms.Group.{Group as Size}
 use Rattle.dma_manual.specs.declared.forms.Group.TheVariants.{Byte, Half, Word, Long}
-use Rattle.dma_manual.specs.Printed.{characters, lines_from, md, md_line, padding, paired_groups, parts, places, spaced_groups, xxd, xxd_line}
-use Rattle.dma_manual.proofs.Runs.{Goes, at, at_same, goes_none, goes_step, goes_then, read_whole}
+use Rattle.dma_manual.specs.Printed.{characters, md, md_line, paired_groups, parts, places, spaced_groups, xxd, xxd_line}
+use Rattle.dma_manual.proofs.Runs.{Goes, at, at_same, goes_step, goes_then, read_whole}
 use Rattle.dma_manual.proofs.DumpDigits.{FirstOfGroup, address_first, address_places, group_radix}
-use Rattle.dma_manual.proofs.DumpLines.{ArePartsOf, AreBytes, IsPart, LineTo, ReadsLines, dump_read, parts_are}
-use Rattle.dma_manual.proofs.DumpGroups.{ToGroup, group_space, groups_read, hex_places, size_some}
-use Rattle.dma_manual.proofs.SpacedTexts.{ToBehind, ToEnd, behind_spaces, characters_end, paired_read, then_end}
+use Rattle.dma_manual.proofs.DumpLines.{ArePartsOf, AreBytes, IsPart, ReadsLines, dump_read, parts_are}
+use Rattle.dma_manual.proofs.DumpGroups.{group_space, groups_read, hex_places, size_some}
+use Rattle.dma_manual.proofs.SpacedTexts.{ToEnd, behind_spaces, characters_end, paired_read, then_end}
 use Rattle.dma_manual.proofs.PlainAddresses.{in_line}
 use Rattle.dma_manual.proofs.ReadBack.{read_back}
 
@@ -40,7 +39,7 @@ module _ (group : Size) where
       → Goes here (at s Start) bytes (places 16 8 a ++ 58 ∷ []) (in_line s (length bytes) a (Lead 0)) bytes
   address_read s bytes a fits small on =
       let digits = address_places here (at s Start) s bytes 16 1 (λ b d digit below. address_first here s bytes b d 16 digit refl below) refl (omega arith)
-          (omega arith) fits 7 a (hex_places 7 a (omega arith) (omega arith)) in
+      (omega arith) fits 7 a (hex_places 7 a (omega arith) (omega arith)) in
       goes_then digits (goes_step here (at s (Address false 4 a)) (in_line s (length bytes) a (Lead 0)) bytes 58 fits (colon_address s bytes a on))
 
 -- what follows the groups of xxd
@@ -49,7 +48,7 @@ xxd_rest : (s : Scan) (bytes line : List ℕ) (n : ℕ) → drop s.before bytes 
 xxd_rest s bytes line n is are fits =
     let spaces = behind_spaces (form Colon Byte) s bytes n false fits in
     let space = goes_step (form Colon Byte) (at s (Behind spaces.wide)) (at s (Behind true)) bytes 32 fits refl in
-    then_end spaces.goes (then_end space (characters_end (form Colon Byte) refl refl s bytes line is fits line [] refl refl are))
+    then_end spaces.goes (then_end space (characters_end (form Colon Byte) refl s bytes line (inl refl) 0 is fits line [] refl refl are))
 
 xxd_groups : (size : ℕ) (list : List (List ℕ)) (s : Scan) (bytes line : List ℕ) → ArePartsOf size 1 line list → 0 < length line
     → length bytes + length line ≤ 1048576
@@ -60,7 +59,7 @@ xxd_groups size (part ∷ rest) s bytes line are some fits =
     subst (λ (l : List ℕ). Goes (form Colon Byte) (at s (Lead 1)) bytes (paired_groups (part ∷ rest)) (at s (Behind false)) (bytes ++ l)) are.is
     (paired_read Colon refl s size rest part (at s (Lead 1)) bytes (lead_digit Byte s bytes) are.all.0 are.all.1 (omega arith))
 
-xxd_line_read : (size : ℕ) → 0 < size → ReadsLines (form Colon Byte) (xxd_line size) 16 1 (2 ^ 32)
+xxd_line_read : (size : ℕ) → 0 < size → ReadsLines (form Colon Byte) (xxd_line size) (IsPart 16 1) (2 ^ 32)
 xxd_line_read size sized s bytes a f part start on first is_part fits below =
     let u = in_line s (length bytes) a (Lead 0) in
     let found = bytes ++ part in
@@ -72,7 +71,7 @@ xxd_line_read size sized s bytes a f part start on first is_part fits below =
     let groups = xxd_groups size list u bytes part are is_part.some fits in
     let rest = xxd_rest u found part (32 + 16 / size - length (paired_groups list)) (drop_at bytes part (length bytes) refl) is_part.bytes (omega arith) in
     let front = subst (λ (l : List ℕ). Goes (form Colon Byte) (at s Start) bytes l (at u (Lead 1)) bytes) (append_assoc (places 16 8 a) (58 ∷ []) (32 ∷ []))
-        (goes_then address space) in
+    (goes_then address space) in
     let whole = goes_then groups rest.goes in
     record {
       next = rest.next;
@@ -89,8 +88,8 @@ xxd_is_read_back size bytes sized dumped =
     let are = parts_are 16 1 [] bytes (omega arith) refl (omega arith) (λ k. omega arith) dumped.each in
     let some = dumped.some in
     let most = dumped.most in
-    let all = dump_read (form Colon Byte) (xxd_line size) 16 1 (2 ^ 32) (xxd_line_read size sized) 0 (begun (form Colon Byte)) (parts 16 bytes) bytes refl refl are
-        some most (omega arith) in
+    let all = dump_read (form Colon Byte) (xxd_line size) (IsPart 16 1) (2 ^ 32) (λ part is. is.some) (xxd_line_read size sized) 0 (begun (form Colon Byte)) (parts 16 bytes) bytes refl refl are.all
+    are.is some most (omega arith) in
     read_back 3 (form Colon Byte) (xxd size bytes) bytes all.next.is_sure (omega arith)
     (read_whole (form Colon Byte) (xxd size bytes) bytes all.next all.goes all.start some most)
 
@@ -110,13 +109,13 @@ md_rest : (group : Size) (s : Scan) (bytes line : List ℕ) (v n : ℕ) → drop
     → ToEnd (form Colon group) (at s (Group false (digits_of group) v)) s bytes (replicate n 32 ++ (codes "    " ++ (characters line ++ 10 ∷ [])))
 md_rest group s bytes line v n is are fits =
     let wide = goes_step (form Colon group) (at s (Behind true)) (at s (Behind true)) bytes 32 fits refl in
-    let end = characters_end (form Colon group) refl refl s bytes line is fits line [] refl refl are in
+    let end = characters_end (form Colon group) refl s bytes line (inl refl) 0 is fits line [] refl refl are in
     subst (λ (l : List ℕ). ToEnd (form Colon group) (at s (Group false (digits_of group) v)) s bytes l)
     (append_assoc (replicate n 32) (32 ∷ 32 ∷ []) (32 ∷ 32 ∷ (characters line ++ 10 ∷ [])))
     (then_end (md_spaces group s bytes v n fits) (then_end wide (then_end wide end)))
 
 module _ (group : Size) (units : 16 % size_of group ≡ 0) where
-  md_line_read : ReadsLines (form Colon group) (md_line group) 16 (size_of group) (2 ^ 32)
+  md_line_read : ReadsLines (form Colon group) (md_line group) (IsPart 16 (size_of group)) (2 ^ 32)
   md_line_read s bytes a f part start on first is_part fits below =
       let u = in_line s (length bytes) a (Lead 0) in
       let found = bytes ++ part in
@@ -129,7 +128,7 @@ module _ (group : Size) (units : 16 % size_of group ≡ 0) where
       let address = address_read group s bytes a (omega arith) below on in
       let groups = groups_read Colon group u list part bytes u (Lead 1) refl (lead_digit group u bytes) are is_part.some fits in
       let rest = md_rest group u found part groups.v (16 / size * (digits_of group + 1) - length (spaced_groups group list))
-          (drop_at bytes part (length bytes) refl) is_part.bytes (omega arith) in
+      (drop_at bytes part (length bytes) refl) is_part.bytes (omega arith) in
       record {
         next = rest.next;
         goes = subst (λ (v : Scan). Goes (form Colon group) v bytes (md_line group a part) rest.next found) (at_same s Start start)
@@ -145,8 +144,8 @@ module _ (group : Size) (units : 16 % size_of group ≡ 0) where
       let some = dumped.some in
       let most = dumped.most in
       let are = parts_are 16 (size_of group) [] bytes (omega arith) units (ap (λ (m : ℕ). m % size_of group) zero_add ∙ whole) (λ k. omega arith) dumped.each in
-      let all = dump_read (form Colon group) (md_line group) 16 (size_of group) (2 ^ 32) md_line_read from (begun (form Colon group)) (parts 16 bytes) bytes
-          refl refl are some most below in
+      let all = dump_read (form Colon group) (md_line group) (IsPart 16 (size_of group)) (2 ^ 32) (λ part is. is.some) md_line_read from (begun (form Colon group)) (parts 16 bytes) bytes
+      refl refl are.all are.is some most below in
       let text = md group from bytes in
       read_back i (form Colon group) text bytes all.next.is_sure tried
       (ap (λ (x : Form). read_as x text) at_i ∙ read_whole (form Colon group) text bytes all.next all.goes all.start some most)

@@ -1,14 +1,14 @@
 -- The digits of addresses and groups in a dump, which are read as the numbers that were printed.
-use Rattle.std.proofs.Common.{◌≡◌, ◌∙◌, ap, sym, subst, refl, ℕ, zero, suc, ◌+◌, ◌*◌, ◌/◌, ◌%◌, ◌^◌, ◌<◌, ◌≤◌, Bool, true, false, eqb, nat_le, nat_lt, if◌then◌else◌}
-use Rattle.std.proofs.Common.{List, [], ◌∷◌, ◌++◌, length, take, Option, Result, Ok, Err, arith}
-use Rattle.std.proofs.lemmas.Bool.{lt-ltb, lt-leb, le-leb, ne_eqb, eq-eqb}
+use Rattle.std.proofs.Common.{◌≡◌, ◌∙◌, ap, subst, refl, ℕ, zero, suc, ◌+◌, ◌*◌, ◌/◌, ◌%◌, ◌^◌, ◌<◌, ◌≤◌, Bool, true, false, eqb, nat_lt, if◌then◌else◌}
+use Rattle.std.proofs.Common.{List, ◌++◌, length, take, Ok, arith}
+use Rattle.std.proofs.lemmas.Bool.{lt-ltb, lt-leb, ne_eqb, eq-eqb}
 use Rattle.std.proofs.Math.Nat.{div-add-mod', mod-eq_of_lt, mod-lt}
 use Rattle.std.specs.{Char.digit_value, Fmt.digit_glyph, Int.w64, Int.to_le_bytes}
-use Rattle.dma_manual.specs.Forms.{digits_of, has_spaced_text, is_octal, least_digits, radix_of, size_of}
-use Rattle.dma_manual.specs.{Dump.Step, Dump.next_of, declared.dump.Cause.Cause, declared.dump.Effect.Effect, declared.dump.Effect.TheVariants.Nothing}
-use Rattle.dma_manual.specs.{declared.dump.Effect.TheVariants.Number, declared.dump.Place.Place, declared.dump.Scan.Scan, declared.forms.Form.Form}
-use Rattle.dma_manual.specs.declared.dump.Place.TheVariants.{Start, Address, Group, Gap, Behind, Lead}
-use Rattle.dma_manual.specs.{Pasted.applied, Printed.places}
+use Rattle.dma_manual.specs.Forms.{digits_of, is_octal, least_digits, radix_of, size_of}
+use Rattle.dma_manual.specs.{Dump.next_of, declared.dump.Effect.TheVariants.Nothing}
+use Rattle.dma_manual.specs.{declared.dump.Effect.TheVariants.Number, declared.dump.Scan.Scan, declared.forms.Form.Form}
+use Rattle.dma_manual.specs.declared.dump.Place.TheVariants.{Start, Address, Group}
+use Rattle.dma_manual.specs.{Printed.places}
 use Rattle.dma_manual.proofs.Numerals.{each_at}
 use Rattle.dma_manual.proofs.Runs.{Goes, at, goes_effect, goes_step, goes_then}
 

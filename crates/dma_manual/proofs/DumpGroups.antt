@@ -1,5 +1,5 @@
 -- Groups of bytes in a dump, which are read as the bytes that were printed.
-use Rattle.std.proofs.Common.{◌≡◌, ◌∙◌, ap, sym, subst, refl, ℕ, zero, suc, ◌+◌, ◌*◌, ◌/◌, ◌%◌, ◌^◌, ◌<◌, ◌≤◌, Bool, true, false, ◌⊎◌, inl, inr}
+use Rattle.std.proofs.Common.{◌≡◌, ap, sym, subst, refl, ℕ, zero, suc, ◌+◌, ◌*◌, ◌/◌, ◌%◌, ◌^◌, ◌<◌, ◌≤◌, Bool, true, false, inl, inr}
 use Rattle.std.proofs.Common.{List, [], ◌∷◌, ◌++◌, take, length, length-append, append_assoc, append-nil, Ok, arith}
 use Rattle.std.proofs.lemmas.Bool.{le-leb, cases_lt}
 use Rattle.std.proofs.Math.Nat.{mod-eq_of_lt}
@@ -7,7 +7,7 @@ use Rattle.std.specs.{Int.w64, Int.to_le_bytes}
 use Rattle.dma_manual.specs.Forms.{digits_of, form, is_octal, size_of}
 use Rattle.dma_manual.specs.{Dump.next_of, declared.dump.Place.Place, declared.dump.Scan.Scan, declared.forms.Column.Column, declared.forms.Form.Form}
 use Rattle.dma_manual.specs.declared.dump.Effect.TheVariants.{Nothing}
-use Rattle.dma_manual.specs.declared.dump.Place.TheVariants.{Start, Group, Gap, Behind}
+use Rattle.dma_manual.specs.declared.dump.Place.TheVariants.{Group, Behind}
 use Rattle.dma_manual.specs.declared.forms.Group.{Group as Size}
 use Rattle.dma_manual.specs.declared.forms.Group.TheVariants.{Byte, Half, Word, Long, Octal as Octals}
 use Rattle.dma_manual.specs.Printed.{group_digits, number_of, spaced_groups}
@@ -166,7 +166,7 @@ module _ (column : Column) (group : Size) (s : Scan) where
       let found = bytes ++ part in
       let one = whole_group group part is column from s bytes false first (omega arith) in
       let space = goes_step here (at s (Group false (digits_of group) (number_of part))) (at s (Behind false)) found 32 (omega arith)
-          (group_space column group s found (number_of part)) in
+      (group_space column group s found (number_of part)) in
       let two = chain rest more found (at s (Behind false)) (behind_digit here s found (is_octal group) refl) others.0 others.1 (omega arith) in
       record {
         v = two.v;

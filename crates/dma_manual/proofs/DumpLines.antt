@@ -1,12 +1,12 @@
 -- The lines of a dump, each with a part of the bytes.
-use Rattle.std.proofs.Common.{◌≡◌, ◌∙◌, ap, sym, subst, refl, ℕ, zero, suc, ◌+◌, ◌%◌, ◌<◌, ◌≤◌, Bool, true, false, eqb, cond, if◌then◌else◌, append_assoc, append-nil}
-use Rattle.std.proofs.Common.{List, [], ◌∷◌, ◌++◌, length, length-append, take, drop, Option, Some, None, Result, Ok, Err, arith}
+use Rattle.std.proofs.Common.{◌≡◌, ◌∙◌, ap, sym, subst, refl, ℕ, zero, suc, ◌+◌, ◌%◌, ◌<◌, ◌≤◌, true, eqb, append_assoc, append-nil}
+use Rattle.std.proofs.Common.{List, [], ◌∷◌, ◌++◌, length, length-append, take, drop, Option, Some, None, arith}
 use Rattle.std.specs.{Prelude.slice_index, Option.unwrap_or}
 use Rattle.std.proofs.Math.Nat.{add-mod, mod-mod}
 use Rattle.std.proofs.lemmas.Bool.{cond_both, eq-eqb, eqb-true, eqb-false}
 use Rattle.dma_manual.specs.{Dump.goes_on, declared.dump.Place.TheVariants.Start, declared.dump.Scan.Scan, declared.forms.Form.Form}
-use Rattle.dma_manual.specs.Printed.{lines_from, parts, parts_after}
-use Rattle.dma_manual.proofs.Runs.{Goes, at, goes_none, goes_then}
+use Rattle.dma_manual.specs.Printed.{lines_from, parts_after}
+use Rattle.dma_manual.proofs.Runs.{Goes, goes_none, goes_then}
 
 abbrev pub AreBytes : List ℕ → Type 0
 AreBytes bytes = (k : ℕ) → slice_index bytes k < 256
@@ -106,21 +106,22 @@ pub record LineTo (form : Form) (s : Scan) (bytes text part : List ℕ) (f : ℕ
   pub start : next.place ≡ Start
   pub first : next.first ≡ Some f
 
--- Each line at an address below `top` is read.
-abbrev pub ReadsLines : Form → (ℕ → List ℕ → List ℕ) → ℕ → ℕ → ℕ → Type 0
-ReadsLines form line n unit top =
-    (s : Scan) (bytes : List ℕ) (a f : ℕ) (part : List ℕ) → s.place ≡ Start → goes_on s.first (length bytes) a ≡ true → unwrap_or s.first a ≡ f → IsPart n unit part
+-- Each line at an address below `top` is read, if its bytes are as asked for.
+abbrev pub ReadsLines : Form → (ℕ → List ℕ → List ℕ) → (List ℕ → Type 0) → ℕ → Type 0
+ReadsLines form line Is top =
+    (s : Scan) (bytes : List ℕ) (a f : ℕ) (part : List ℕ) → s.place ≡ Start → goes_on s.first (length bytes) a ≡ true → unwrap_or s.first a ≡ f → Is part
     → length bytes + length part ≤ 1048576 → a < top → LineTo form s bytes (line a part) part f
 
-module _ (form : Form) (line : ℕ → List ℕ → List ℕ) (n unit top : ℕ) (reads : ReadsLines form line n unit top) (f : ℕ) where
+module _ (form : Form) (line : ℕ → List ℕ → List ℕ) (Is : List ℕ → Type 0) (top : ℕ) (some_of : (part : List ℕ) → Is part → 0 < length part)
+    (reads : ReadsLines form line Is top) (f : ℕ) where
   pub lines_read : (rest : List (List ℕ)) (part : List ℕ) (s : Scan) (bytes : List ℕ) (a : ℕ) → s.place ≡ Start → goes_on s.first (length bytes) a ≡ true
-      → unwrap_or s.first a ≡ f → a ≡ f + length bytes → IsPart n unit part → AllParts (IsPart n unit) rest
+      → unwrap_or s.first a ≡ f → a ≡ f + length bytes → Is part → AllParts Is rest
       → length bytes + length (part ++ joined rest) ≤ 1048576 → a + length (part ++ joined rest) ≤ top
       → LineTo form s bytes (lines_from line a (part ∷ rest)) (part ++ joined rest) f
   lines_read [] part s bytes a start on first at_end is_part others most below =
       let all : part ++ [] ≡ part = append-nil part in
       let long = ap (λ (l : List ℕ). length l) all in
-      let some = is_part.some in
+      let some = some_of part is_part in
       let one = reads s bytes a f part start on first is_part (omega arith) (omega arith) in
       record {
         next = one.next;
@@ -132,13 +133,13 @@ module _ (form : Form) (line : ℕ → List ℕ → List ℕ) (n unit top : ℕ)
   lines_read (more ∷ rest) part s bytes a start on first at_end is_part others most below =
       let long = length-append part (joined (more ∷ rest)) in
       let longer = length-append bytes part in
-      let some = is_part.some in
+      let some = some_of part is_part in
       let one = reads s bytes a f part start on first is_part (omega arith) (omega arith) in
       let goes : goes_on (Some f) (length (bytes ++ part)) (a + length part) ≡ true =
       eq-eqb (a + length part) (f + length (bytes ++ part)) (omega arith) in
       let two = lines_read rest more one.next (bytes ++ part) (a + length part) one.start
-          (subst (λ (o : Option ℕ). goes_on o (length (bytes ++ part)) (a + length part) ≡ true) (sym one.first) goes)
-          (ap (λ (o : Option ℕ). unwrap_or o (a + length part)) one.first) (omega arith) others.0 others.1 (omega arith) (omega arith) in
+      (subst (λ (o : Option ℕ). goes_on o (length (bytes ++ part)) (a + length part) ≡ true) (sym one.first) goes)
+      (ap (λ (o : Option ℕ). unwrap_or o (a + length part)) one.first) (omega arith) others.0 others.1 (omega arith) (omega arith) in
       record {
         next = two.next;
         goes = subst (λ (l : List ℕ). Goes form s bytes (line a part ++ lines_from line (a + length part) (more ∷ rest)) two.next l)
@@ -148,10 +149,10 @@ module _ (form : Form) (line : ℕ → List ℕ → List ℕ) (n unit top : ℕ)
       }
 
   -- the lines of a whole dump
-  pub dump_read : (s : Scan) (list : List (List ℕ)) (bytes : List ℕ) → s.place ≡ Start → s.first ≡ None → ArePartsOf n unit bytes list → 0 < length bytes
+  pub dump_read : (s : Scan) (list : List (List ℕ)) (bytes : List ℕ) → s.place ≡ Start → s.first ≡ None → AllParts Is list → joined list ≡ bytes → 0 < length bytes
       → length bytes ≤ 1048576 → f + length bytes ≤ top → LineTo form s [] (lines_from line f list) bytes f
-  dump_read s [] bytes start none are some most below = let long = ap (λ (l : List ℕ). length l) are.is in absurd (omega arith)
-  dump_read s (part ∷ rest) bytes start none are some most below =
-      let long = ap (λ (l : List ℕ). length l) are.is in
-      subst (λ (l : List ℕ). LineTo form s [] (lines_from line f (part ∷ rest)) l f) are.is
-      (lines_read rest part s [] f start (rw none refl) (rw none refl) (omega arith) are.all.0 are.all.1 (omega arith) (omega arith))
+  dump_read s [] bytes start none are whole some most below = let long = ap (λ (l : List ℕ). length l) whole in absurd (omega arith)
+  dump_read s (part ∷ rest) bytes start none are whole some most below =
+      let long = ap (λ (l : List ℕ). length l) whole in
+      subst (λ (l : List ℕ). LineTo form s [] (lines_from line f (part ∷ rest)) l f) whole
+      (lines_read rest part s [] f start (rw none refl) (rw none refl) (omega arith) are.0 are.1 (omega arith) (omega arith))

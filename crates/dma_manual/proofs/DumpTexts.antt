@@ -1,7 +1,7 @@
 -- What a dump's line has after its address: gaps, groups, and its bytes as characters.
-use Rattle.std.proofs.Common.{◌≡◌, ◌∙◌, ap, sym, subst, refl, ℕ, zero, suc, ◌+◌, ◌%◌, ◌<◌, ◌≤◌, Bool, true, false, ◌&&◌, eqb, nat_le, nat_lt, append_assoc, append-nil}
-use Rattle.std.proofs.Common.{List, [], ◌∷◌, ◌++◌, drop, length, length-append, replicate, slice_get, Option, Some, None, Result, Ok, Err, arith}
-use Rattle.std.proofs.lemmas.Bool.{cond_both, eq-eqb, lt-ltb, le-ltb, ne_eqb, and_parts, leb-true}
+use Rattle.std.proofs.Common.{◌≡◌, ◌∙◌, ap, sym, subst, refl, ℕ, zero, suc, ◌+◌, ◌%◌, ◌<◌, ◌≤◌, Bool, true, false, eqb, append_assoc, append-nil}
+use Rattle.std.proofs.Common.{List, [], ◌∷◌, ◌++◌, drop, length, length-append, replicate, slice_get, Option, Some, None, Ok, arith}
+use Rattle.std.proofs.lemmas.Bool.{eq-eqb, lt-ltb, le-ltb}
 use Rattle.std.proofs.lemmas.List.{drop_all}
 use Rattle.std.proofs.Math.Nat.{mod-eq_of_lt}
 use Rattle.std.proofs.lemmas.Option.{slice_get_past}
@@ -10,10 +10,10 @@ use Rattle.dma_manual.specs.{Dump.next_of, Dump.shown_as, declared.dump.Place.Pl
 use Rattle.dma_manual.specs.declared.dump.Effect.TheVariants.{Nothing}
 use Rattle.dma_manual.specs.declared.dump.Place.TheVariants.{Start, Group, Gap, Behind, Text}
 use Rattle.dma_manual.specs.declared.forms.Group.TheVariants.{Byte}
-use Rattle.dma_manual.specs.Printed.{characters, places, spaced_pairs}
+use Rattle.dma_manual.specs.Printed.{characters, spaced_pairs}
 use Rattle.dma_manual.proofs.Numerals.{each_at}
 use Rattle.dma_manual.proofs.Runs.{Goes, at, goes_none, goes_step, goes_then}
-use Rattle.dma_manual.proofs.DumpDigits.{FirstOfGroup, IsDigit, group_places, group_radix}
+use Rattle.dma_manual.proofs.DumpDigits.{FirstOfGroup, group_places, group_radix}
 use Rattle.dma_manual.proofs.DumpLines.{AreBytes}
 
 -- before a group, in a form where no text begins after spaces
@@ -21,10 +21,14 @@ abbrev pub gap : Option Bool → Place
 gap None = Gap
 gap (Some wide) = Behind wide
 
+-- after blanks behind an address, in any form
+pub blank_digit : (form : Form) (s : Scan) (bytes : List ℕ) (octal : Bool) → is_octal form.group ≡ octal → FirstOfGroup form (at s Gap) s bytes false octal
+blank_digit form s bytes octal radix b d digit small =
+    rw (digit.no_return, digit.no_space, digit.no_tab, digit.no_feed, radix, digit.value, lt-ltb d (group_radix octal) small) refl
+
 pub gap_digit : (form : Form) (s : Scan) (bytes : List ℕ) (o : Option Bool) (octal : Bool) → has_spaced_text form.column ≡ false → is_octal form.group ≡ octal
     → FirstOfGroup form (at s (gap o)) s bytes false octal
-gap_digit form s bytes None octal plain radix b d digit small =
-    rw (digit.no_return, digit.no_space, digit.no_tab, digit.no_feed, radix, digit.value, lt-ltb d (group_radix octal) small) refl
+gap_digit form s bytes None octal plain radix b d digit small = blank_digit form s bytes octal radix b d digit small
 gap_digit form s bytes (Some false) octal plain radix b d digit small =
     rw (digit.no_return, digit.no_space, digit.no_tab, digit.no_feed, radix, digit.value, lt-ltb d (group_radix octal) small) refl
 gap_digit form s bytes (Some true) octal plain radix b d digit small =
@@ -66,14 +70,17 @@ pair_made bytes x small = ap (λ (b : ℕ). bytes ++ b ∷ []) (mod-eq_of_lt sma
 pub spaced_read : (column : Column) (s : Scan) (xs bytes : List ℕ) (o : Option Bool) → has_spaced_text column ≡ false → AreBytes xs
     → length bytes + length xs ≤ 1048576 → ToGap (form column Byte) (at s (gap o)) s bytes (spaced_pairs xs) (bytes ++ xs)
 spaced_read column s [] bytes o plain are fits =
-    record { o = o; goes = subst (λ (l : List ℕ). Goes (form column Byte) (at s (gap o)) bytes [] (at s (gap o)) l) (sym (append-nil bytes))
-        (goes_none (form column Byte) (at s (gap o)) bytes) }
+    record {
+      o = o;
+      goes = subst (λ (l : List ℕ). Goes (form column Byte) (at s (gap o)) bytes [] (at s (gap o)) l) (sym (append-nil bytes))
+          (goes_none (form column Byte) (at s (gap o)) bytes);
+    }
 spaced_read column s (x ∷ xs) bytes o plain are fits =
     let small : x < 256 = are 0 in
     let found = bytes ++ x ∷ [] in
     let long : length found ≡ length bytes + 1 = length-append bytes (x ∷ []) in
     let pair = group_places (form column Byte) (at s (gap o)) s bytes false false (gap_digit (form column Byte) s bytes o false plain refl) refl 16 2 refl
-        (omega arith) (omega arith) refl (omega arith) 0 x found refl (omega arith, omega arith) (pair_made bytes x small) (omega arith) in
+    (omega arith) (omega arith) refl (omega arith) 0 x found refl (omega arith, omega arith) (pair_made bytes x small) (omega arith) in
     let space = goes_step (form column Byte) (at s (Group false 2 x)) (at s (Behind false)) found 32 (omega arith) refl in
     let rest = spaced_read column s xs found (Some false) plain (λ k. are (suc k)) (omega arith) in
     subst (λ (l : List ℕ). ToGap (form column Byte) (at s (gap o)) s bytes (spaced_pairs (x ∷ xs)) l) (append_assoc bytes (x ∷ []) xs)

@@ -27,4 +27,5 @@ mod PlainDumps
 mod SpacedTexts
 mod ColonDumps
 mod MarkedDumps
+mod SectionDumps
 mod ToolRows

@@ -1,8 +1,7 @@
 -- Addresses without a colon, at the front of a line and alone.
-use Rattle.std.proofs.Common.{◌≡◌, refl, ℕ, ◌-◌, ◌<◌, ◌≤◌, true, false, ◌||◌, nat_le, nat_lt, List, [], ◌∷◌, length, take, drop, Some, None, Ok, arith}
+use Rattle.std.proofs.Common.{◌≡◌, refl, ℕ, ◌-◌, ◌<◌, ◌≤◌, true, false, ◌||◌, nat_le, nat_lt, List, [], ◌∷◌, length, take, drop, Some, Ok, arith}
 use Rattle.std.specs.Option.{unwrap_or}
 use Rattle.std.proofs.lemmas.Bool.{lt-ltb, le-ltb, le-leb}
-use Rattle.std.proofs.lemmas.List.{drop_all, take_all}
 use Rattle.dma_manual.specs.Forms.{least_digits, radix_of, size_of}
 use Rattle.dma_manual.specs.Dump.{goes_on, has_colon, has_headings, is_all_zeros, next_of}
 use Rattle.dma_manual.specs.{declared.dump.Place.Place, declared.dump.Scan.Scan, declared.forms.Form.Form}

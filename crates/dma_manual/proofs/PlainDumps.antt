@@ -1,13 +1,12 @@
 -- What `od` and `hexdump` print is read back.
-use Rattle.std.proofs.Common.{◌≡◌, ◌∙◌, ap, sym, subst, refl, ℕ, zero, suc, ◌+◌, ◌-◌, ◌%◌, ◌^◌, ◌<◌, ◌≤◌, Bool, true, false, nat_le, List, [], ◌∷◌, ◌++◌, length}
+use Rattle.std.proofs.Common.{◌≡◌, ◌∙◌, ap, subst, refl, ℕ, zero, suc, ◌+◌, ◌-◌, ◌%◌, ◌<◌, ◌≤◌, Bool, true, false, nat_le, List, [], ◌∷◌, ◌++◌, length}
 use Rattle.dma_manual.specs.Pasted.{read_as}
 use Rattle.std.proofs.Math.Nat.{mod_self}
-use Rattle.std.proofs.Common.{length-append, replicate, take, drop, slice_index, slice_index_or, Option, Some, None, Ok, arith, append_assoc}
-use Rattle.std.proofs.lemmas.Bool.{le-leb}
+use Rattle.std.proofs.Common.{length-append, replicate, drop, slice_index_or, Option, Some, None, Ok, arith}
 use Rattle.std.proofs.lemmas.List.{drop_at, take_at, length-replicate}
 use Rattle.dma_manual.specs.Forms.{digits_of, form, has_spaced_text, is_octal, least_digits, radix_of, size_of, words_first}
 use Rattle.dma_manual.specs.Dump.{has_colon, has_headings, is_all_zeros, next_of}
-use Rattle.dma_manual.specs.{PrintedLaws.HexdumpIsReadBack, PrintedLaws.IsDumped, PrintedLaws.IsOrUnsure, PrintedLaws.OdIsReadBack}
+use Rattle.dma_manual.specs.{PrintedLaws.IsDumped, PrintedLaws.IsOrUnsure, PrintedLaws.OdIsReadBack}
 use Rattle.dma_manual.specs.{declared.dump.Scan.Scan, declared.forms.Column.Column, declared.forms.Form.Form, Pasted.begun, Pasted.pasted, Pasted.start_of}
 use Rattle.dma_manual.specs.declared.pasted.Spelling.TheVariants.{Dump}
 use Rattle.dma_manual.specs.declared.dump.Effect.TheVariants.{Nothing}
@@ -15,10 +14,10 @@ use Rattle.dma_manual.specs.declared.dump.Place.TheVariants.{Start, Address, Beh
 use Rattle.dma_manual.specs.declared.forms.Column.TheVariants.{Hex, Octal, Decimal}
 use Rattle.dma_manual.specs.declared.forms.Group.{Group as Size}
 use Rattle.dma_manual.specs.declared.forms.Group.TheVariants.{Byte, Half, Word, Long, Octal as Octals}
-use Rattle.dma_manual.specs.Printed.{filled, hexdump, hexdump_canonical, lines_from, od, parts, places, plain_dump, plain_line, spaced_groups}
+use Rattle.dma_manual.specs.Printed.{filled, hexdump, parts, places, plain_dump, plain_line, spaced_groups}
 use Rattle.dma_manual.proofs.Runs.{Goes, at, at_same, goes_step, goes_then, read_whole}
 use Rattle.dma_manual.proofs.DumpDigits.{HasPlaces, address_first, address_places, counted}
-use Rattle.dma_manual.proofs.DumpLines.{ArePartsOf, AreBytes, IsPart, LineTo, ReadsLines, bytes_append, dump_read, parts_are}
+use Rattle.dma_manual.proofs.DumpLines.{ArePartsOf, AreBytes, IsPart, ReadsLines, bytes_append, dump_read, parts_are}
 use Rattle.dma_manual.proofs.DumpTexts.{gap, gap_digit, spaces_read}
 use Rattle.dma_manual.proofs.DumpGroups.{decimal_places, group_space, groups_read, hex_places, octal_places, size_some}
 use Rattle.dma_manual.proofs.PlainAddresses.{address_space, end_read, in_line}
@@ -101,7 +100,7 @@ module _ (column : Column) (group : Size) (r k : ℕ) (is : IsPlain column r k) 
       goes_then (goes_step here (at s (Group false (digits_of group) v)) (at s (Behind false)) bytes 32 fits (group_space column group s bytes v))
       (goes_then spaces.goes (goes_step here (at s (gap spaces.o)) (at s Start) bytes 10 fits (gap_feed here s bytes spaces.o is.bare is.headless)))
 
-  line_read : ReadsLines here (plain_line r (suc k) group pad) 16 (size_of group) 1048577
+  line_read : ReadsLines here (plain_line r (suc k) group pad) (IsPart 16 (size_of group)) 1048577
   line_read s bytes a f part start on first is_part fits below =
       let u = in_line s (length bytes) a Gap in
       let found = bytes ++ part in
@@ -115,7 +114,7 @@ module _ (column : Column) (group : Size) (r k : ℕ) (is : IsPlain column r k) 
       let address = offset_read s bytes a (omega arith) (omega arith) in
       let space = address_space here r is.radix is.small is.plain s bytes count a is.enough on in
       let groups = groups_read column group u list part bytes (at s (Address false count a)) Gap space
-          (gap_digit here u bytes None (is_octal group) is.bare refl) are is_part.some fits in
+      (gap_digit here u bytes None (is_octal group) is.bare refl) are is_part.some fits in
       let tail = tail_read u found groups.v (pad part) (omega arith) in
       record {
         next = at u Start;
@@ -142,41 +141,69 @@ module _ (column : Column) (group : Size) (r k : ℕ) (is : IsPlain column r k) 
       let zero_add : 0 + length full ≡ n + fill group n = omega arith in
       let whole : (0 + length full) % size_of group ≡ 0 = ap (λ (m : ℕ). m % size_of group) zero_add ∙ fits.whole in
       let are = parts_are 16 (size_of group) [] full (omega arith) fits.units whole (λ j. omega arith)
-          (bytes_append bytes zeros dumped.each (zero_bytes (fill group n))) in
-      let all = dump_read here (plain_line r (suc k) group pad) 16 (size_of group) 1048577 line_read 0 (begun here) (parts 16 full) full is.start refl are
-          (omega arith) full_most (omega arith) in
+      (bytes_append bytes zeros dumped.each (zero_bytes (fill group n))) in
+      let all = dump_read here (plain_line r (suc k) group pad) (IsPart 16 (size_of group)) 1048577 (λ part it. it.some) line_read 0 (begun here) (parts 16 full) full is.start refl are.all are.is
+      (omega arith) full_most (omega arith) in
       let s = all.next in
       let last = offset_read s full n full_most most in
       let rest : drop n full ≡ zeros = drop_at bytes zeros n refl in
       let end = end_read here r is.radix is.small is.plain s full bytes count n is.enough is.headless all.first (omega arith) (omega arith)
-          (ap (λ (l : List ℕ). is_all_zeros l) rest ∙ zeros_are (fill group n)) (take_at bytes zeros n refl) most in
+      (ap (λ (l : List ℕ). is_all_zeros l) rest ∙ zeros_are (fill group n)) (take_at bytes zeros n refl) most in
       let done = record s { place = Start; is_sure = true } in
       let text = plain_dump r (suc k) group pad bytes in
       let reads = goes_then all.goes (subst (λ (v : Scan). Goes here v full (places r (suc k) n ++ 10 ∷ []) done bytes) (at_same s Start all.start)
-          (goes_then last end)) in
+      (goes_then last end)) in
       read_back i here text bytes true below (ap (λ (x : Form). read_as x text) at_i ∙ read_whole here text bytes done reads refl some most)
 
 hex_offsets : IsPlain Hex 16 5
 hex_offsets = record {
-  radix = refl; some = omega arith; small = omega arith; plain = refl; headless = refl; bare = refl; enough = refl; start = refl;
+  radix = refl;
+  some = omega arith;
+  small = omega arith;
+  plain = refl;
+  headless = refl;
+  bare = refl;
+  enough = refl;
+  start = refl;
   fit = λ a small. hex_places 5 a (omega arith) (omega arith);
 }
 
 hexdump_offsets : IsPlain Hex 16 6
 hexdump_offsets = record {
-  radix = refl; some = omega arith; small = omega arith; plain = refl; headless = refl; bare = refl; enough = refl; start = refl;
+  radix = refl;
+  some = omega arith;
+  small = omega arith;
+  plain = refl;
+  headless = refl;
+  bare = refl;
+  enough = refl;
+  start = refl;
   fit = λ a small. hex_places 6 a (omega arith) (omega arith);
 }
 
 octal_offsets : IsPlain Octal 8 6
 octal_offsets = record {
-  radix = refl; some = omega arith; small = omega arith; plain = refl; headless = refl; bare = refl; enough = refl; start = refl;
+  radix = refl;
+  some = omega arith;
+  small = omega arith;
+  plain = refl;
+  headless = refl;
+  bare = refl;
+  enough = refl;
+  start = refl;
   fit = λ a small. octal_places 6 a (omega arith) (omega arith);
 }
 
 decimal_offsets : IsPlain Decimal 10 6
 decimal_offsets = record {
-  radix = refl; some = omega arith; small = omega arith; plain = refl; headless = refl; bare = refl; enough = refl; start = refl;
+  radix = refl;
+  some = omega arith;
+  small = omega arith;
+  plain = refl;
+  headless = refl;
+  bare = refl;
+  enough = refl;
+  start = refl;
   fit = λ a small. decimal_places 6 a (omega arith) (omega arith);
 }
 

@@ -1,7 +1,7 @@
 -- A text that is a dump of some bytes in one form is read as these bytes, or refused as doubtful.
 use Rattle.std.proofs.Common.{◌≡◌, ℕ, zero, suc, ◌<◌, Bool, List, [], ◌∷◌, length, slice_index_or, refl, Option, Some, None, Result, Ok, Err, arith}
 use Rattle.dma_manual.specs.{Forms.words_first, declared.doubts.Doubt.Doubt, declared.forms.Form.Form, declared.pasted.Fault.Fault}
-use Rattle.dma_manual.specs.{PrintedLaws.IsOrUnsure, Laws.ReadsNoOther, declared.pasted.Spelling.TheVariants.Dump}
+use Rattle.dma_manual.specs.{PrintedLaws.IsOrUnsure, declared.pasted.Spelling.TheVariants.Dump}
 use Rattle.dma_manual.specs.Pasted.{Read, doubt_of, dump_of, fit, further, nowhere, or_next, pasted, read_as, settled_by}
 use Rattle.dma_manual.proofs.OneDump.{dumps_are_read_one_way}
 

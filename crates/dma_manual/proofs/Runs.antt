@@ -1,12 +1,12 @@
 -- How the text of a dump is read, one part after another.
-use Rattle.std.proofs.Common.{◌≡◌, ◌∙◌, sym, ap, refl, ℕ, ◌+◌, ◌<◌, ◌≤◌, Bool, true, false, List, [], ◌∷◌, ◌++◌, length, nat_le, nat_lt, subst, if◌then◌else◌, Option, Result, Ok, Err, arith, eqb}
+use Rattle.std.proofs.Common.{◌≡◌, ◌∙◌, sym, ap, refl, ℕ, ◌+◌, ◌<◌, ◌≤◌, Bool, true, false, List, [], ◌∷◌, ◌++◌, length, nat_le, subst, if◌then◌else◌, Result, Ok, Err}
 use Rattle.std.proofs.lemmas.Bool.{le-leb, lt-ltb}
-use Rattle.dma_manual.specs.{Dump.Step, Dump.next_of, declared.dump.Cause.Cause, declared.dump.Effect.Effect, declared.dump.Effect.TheVariants.Nothing}
+use Rattle.dma_manual.specs.{Dump.Step, Dump.next_of, declared.dump.Effect.Effect, declared.dump.Effect.TheVariants.Nothing}
 use Rattle.dma_manual.specs.{declared.dump.Place.Place, declared.dump.Place.TheVariants.Start}
 use Rattle.dma_manual.specs.{declared.dump.Scan.Scan, declared.forms.Form.Form, declared.pasted.Fault.Fault}
 use Rattle.dma_text.specs.Results.{◌>>=◌}
 use Rattle.dma_manual.specs.declared.dump.Cause.TheVariants.{Long as TooLong}
-use Rattle.dma_manual.specs.Pasted.{applied, begun, ended, read_as, read_from, taken, taken_by, within}
+use Rattle.dma_manual.specs.Pasted.{applied, begun, read_as, read_from, taken, taken_by}
 
 abbrev pub Run : Type 0
 Run = Result (Scan × List ℕ) Fault
@@ -16,7 +16,7 @@ go_on (Ok next) f = f next.0 next.1
 go_on (Err fault) f = Err fault
 
 -- the scan and the bytes after a text
-pub run : Form → Scan → List ℕ → List ℕ → Run
+unfoldable pub run : Form → Scan → List ℕ → List ℕ → Run
 run form s bytes [] = Ok (s, bytes)
 run form s bytes (b ∷ text) = go_on (taken form s bytes 0 b) (λ next found. run form next found text)
 

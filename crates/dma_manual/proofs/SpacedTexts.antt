@@ -1,13 +1,13 @@
 -- A line's bytes as characters, which follow two spaces or more, and pairs of digits without spaces.
-use Rattle.std.proofs.Common.{◌≡◌, ◌∙◌, ap, sym, subst, refl, ℕ, zero, suc, ◌+◌, ◌%◌, ◌<◌, ◌≤◌, Bool, true, false, ◌&&◌, eqb, append_assoc, append-nil, one-add, inl, inr}
-use Rattle.std.proofs.Common.{List, [], ◌∷◌, ◌++◌, drop, length, length-append, replicate, slice_get, Option, Some, None, Result, Ok, Err, arith}
-use Rattle.std.specs.List.{list_all}
-use Rattle.std.proofs.lemmas.Bool.{and_from, and_parts, cases_Bool, eq-eqb, eqb-true, le-leb, lt-ltb}
+use Rattle.std.proofs.Common.{◌≡◌, ◌∙◌, ap, sym, subst, refl, ℕ, zero, suc, ◌+◌, ◌<◌, ◌≤◌, Bool, true, false, eqb, append_assoc, append-nil, one-add, ◌⊎◌, inl, inr}
+use Rattle.std.proofs.Common.{List, [], ◌∷◌, ◌++◌, drop, length, length-append, replicate, slice_get, Some, Ok, arith}
+use Rattle.std.proofs.lemmas.Bool.{and_from, and_parts, cases_Bool, eq-eqb, eqb-true, le-ltb, lt-ltb}
+use Rattle.std.proofs.lemmas.Option.{slice_get_past}
 use Rattle.std.proofs.lemmas.List.{drop_all}
 use Rattle.dma_text.specs.Lines.{is_all_spaces}
-use Rattle.dma_manual.specs.Forms.{form, has_spaced_text, is_octal}
+use Rattle.dma_manual.specs.Forms.{form, has_spaced_text}
 use Rattle.dma_manual.specs.{Dump.has_headings, Dump.leading_spaces, Dump.next_of, Dump.shown_as, declared.dump.Scan.Scan, declared.forms.Form.Form}
-use Rattle.dma_manual.specs.{declared.dump.Place.Place, declared.forms.Column.Column}
+use Rattle.dma_manual.specs.{declared.forms.Column.Column}
 use Rattle.dma_manual.specs.declared.dump.Effect.TheVariants.{Nothing}
 use Rattle.dma_manual.specs.declared.dump.Place.TheVariants.{Start, Behind, Group, Text}
 use Rattle.dma_manual.specs.declared.forms.Group.TheVariants.{Byte}
@@ -15,7 +15,7 @@ use Rattle.dma_manual.specs.Printed.{characters, paired_groups, pairs, places}
 use Rattle.dma_manual.proofs.Numerals.{each_at}
 use Rattle.dma_manual.proofs.Runs.{Goes, at, goes_none, goes_step, goes_then}
 use Rattle.dma_manual.proofs.DumpDigits.{FirstOfGroup, group_places}
-use Rattle.dma_manual.proofs.DumpLines.{AllParts, ArePartsOf, AreBytes, IsPart, joined}
+use Rattle.dma_manual.proofs.DumpLines.{AllParts, AreBytes, IsPart, joined}
 use Rattle.dma_manual.proofs.DumpTexts.{at_front, behind_digit, characters_read, pair_made, shown_inline}
 use Rattle.dma_manual.proofs.DumpGroups.{ToGroup, hex_places}
 
@@ -49,20 +49,49 @@ pub then_end : {form : Form} {from s t : Scan} {bytes xs ys : List ℕ} → Goes
     → ToEnd form from s bytes (xs ++ ys)
 then_end one two = record { next = two.next; goes = goes_then one two.goes; start = two.start; first = two.first }
 
-module _ (form : Form) (spaced : has_spaced_text form.column ≡ true) (headless : has_headings form.column ≡ false) (s : Scan) (bytes line : List ℕ)
-    (is : drop s.before bytes ≡ line) (fits : length bytes ≤ 1048576) where
-  pub text_end : Goes form (at s (Text (length line))) bytes (10 ∷ []) (record s { place = Start; is_sure = true }) bytes
-  text_end =
-      let none = drop_all (length line) line (omega arith) in
-      goes_step form (at s (Text (length line))) (record s { place = Start; is_sure = true }) bytes 10 fits (rw (is, none) refl)
+-- spaces behind the characters, and the line's end
+pub text_spaces : (form : Form) (s : Scan) (bytes line : List ℕ) (n : ℕ) → drop s.before bytes ≡ line → length bytes ≤ 1048576
+    → Goes form (at s (Text (length line))) bytes (replicate n 32 ++ 10 ∷ []) (record s { place = Start; is_sure = true }) bytes
+text_spaces form s bytes line zero is fits =
+    let none = drop_all (length line) line (omega arith) in
+    goes_step form (at s (Text (length line))) (record s { place = Start; is_sure = true }) bytes 10 fits (rw (is, none) refl)
+text_spaces form s bytes line (suc n) is fits =
+    let k = length line in
+    let past = slice_get_past line k (omega arith) in
+    let space : next_of form (at s (Text k)) bytes 32 ≡ Ok (at s (Text k), Nothing) = rw (is, past, le-ltb k k (omega arith)) refl in
+    goes_then (goes_step form (at s (Text k)) (at s (Text k)) bytes 32 fits space) (text_spaces form s bytes line n is fits)
 
-  only_spaces : next_of form (at s (Behind true)) bytes 10 ≡ Ok (at s Start, Nothing)
-  only_spaces = rw (spaced, headless) refl
+wide_spaces : (form : Form) (s : Scan) (bytes : List ℕ) (n : ℕ) → length bytes ≤ 1048576
+    → Goes form (at s (Behind true)) bytes (replicate n 32) (at s (Behind true)) bytes
+wide_spaces form s bytes zero fits = goes_none form (at s (Behind true)) bytes
+wide_spaces form s bytes (suc n) fits =
+    goes_then (goes_step form (at s (Behind true)) (at s (Behind true)) bytes 32 fits refl) (wide_spaces form s bytes n fits)
+
+-- A line may be all spaces, unless only headings show where addresses begin.
+abbrev pub MayBeSpaces : Form → List ℕ → Type 0
+MayBeSpaces form line = (has_headings form.column ≡ false) ⊎ (is_all_spaces line ≡ false)
+
+module _ (form : Form) (spaced : has_spaced_text form.column ≡ true) (s : Scan) (bytes line : List ℕ) (may : MayBeSpaces form line) (n : ℕ)
+    (is : drop s.before bytes ≡ line) (fits : length bytes ≤ 1048576) where
+  only_spaces : has_headings form.column ≡ false → next_of form (at s (Behind true)) bytes 10 ≡ Ok (at s Start, Nothing)
+  only_spaces headless = rw (spaced, headless) refl
+
+  no_characters : is_all_spaces line ≡ true → ToEnd form (at s (Behind true)) s bytes (replicate n 32 ++ 10 ∷ [])
+  no_characters all =
+      elim may [
+        | inl headless ↦ record {
+          next = at s Start;
+          goes = goes_then (wide_spaces form s bytes n fits) (goes_step form (at s (Behind true)) (at s Start) bytes 10 fits (only_spaces headless));
+          start = refl;
+          first = refl;
+        }
+        | inr some ↦ absurd (cc)
+      ]
 
   pub characters_end : (rest front : List ℕ) → is_all_spaces front ≡ true → front ++ rest ≡ line → AreBytes rest
-      → ToEnd form (at s (Behind true)) s bytes (characters rest ++ 10 ∷ [])
+      → ToEnd form (at s (Behind true)) s bytes (characters rest ++ (replicate n 32 ++ 10 ∷ []))
   characters_end [] front all whole are =
-      record { next = at s Start; goes = goes_step form (at s (Behind true)) (at s Start) bytes 10 fits only_spaces; start = refl; first = refl }
+      no_characters (ap (λ (l : List ℕ). is_all_spaces l) (sym whole ∙ append-nil front) ∙ all)
   characters_end (c ∷ rest) front all whole are =
       let small : c < 256 = are 0 in
       let k = length front in
@@ -78,19 +107,20 @@ module _ (form : Form) (spaced : has_spaced_text form.column ≡ true) (headless
             (characters_end rest (front ++ c ∷ []) all_more joins (λ j. are (suc j)))
         | inr other ↦
             let inline = shown_inline c small in
-            let no_space : eqb (shown_as c) 32 ≡ false = each_at (λ n. eqb (shown_as n) 32) (λ n. eqb n 32) 256 c refl small ∙ other in
-            let no_tab : eqb (shown_as c) 9 ≡ false = each_at (λ n. eqb (shown_as n) 9) (λ n. false) 256 c refl small in
+            let no_space : eqb (shown_as c) 32 ≡ false = each_at (λ m. eqb (shown_as m) 32) (λ m. eqb m 32) 256 c refl small ∙ other in
+            let no_tab : eqb (shown_as c) 9 ≡ false = each_at (λ m. eqb (shown_as m) 9) (λ m. false) 256 c refl small in
             let long : length (front ++ c ∷ rest) ≡ k + suc (length rest) = length-append front (c ∷ rest) in
             let length_is = ap (λ (l : List ℕ). length l) whole in
             let here = subst (λ (l : List ℕ). slice_get l k ≡ Some c) whole (at_front front rest c) in
             let leading = subst (λ (l : List ℕ). leading_spaces l ≡ k) whole (spaces_before front rest c all other) in
             let one = first_character form s bytes line k c (shown_as c) inline.0 inline.1 no_space no_tab refl spaced is leading here (omega arith) in
             let next = characters_read form s bytes line rest (front ++ c ∷ []) is joins (λ j. are (suc j)) fits in
-            let goes = subst (λ (n : ℕ). Goes form (at s (Text n)) bytes (characters rest) (at s (Text (length line))) bytes)
-                (length-append front (c ∷ [])) next in
+            let goes = subst (λ (m : ℕ). Goes form (at s (Text m)) bytes (characters rest) (at s (Text (length line))) bytes)
+            (length-append front (c ∷ [])) next in
             record {
               next = record s { place = Start; is_sure = true };
-              goes = goes_then (goes_step form (at s (Behind true)) (at s (Text (k + 1))) bytes (shown_as c) fits one) (goes_then goes text_end);
+              goes = goes_then (goes_step form (at s (Behind true)) (at s (Text (k + 1))) bytes (shown_as c) fits one)
+                  (goes_then goes (text_spaces form s bytes line n is fits));
               start = refl;
               first = refl;
             }

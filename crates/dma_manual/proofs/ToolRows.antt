@@ -1,7 +1,7 @@
 -- What tools print, computed from its definitions: `tests/printed` compares with the tools.
-use Rattle.std.proofs.Common.{◌≡◌, ℕ, List, [], ◌∷◌, ◌++◌, codes, replicate, refl}
+use Rattle.std.proofs.Common.{◌≡◌, ℕ, List, [], ◌∷◌, ◌++◌, None, codes, replicate, refl}
 use Rattle.dma_manual.specs.declared.forms.Group.TheVariants.{Byte, Half, Word, Long, Octal}
-use Rattle.dma_manual.specs.Printed.{gdb_x, hexdump, hexdump_canonical, od, places, short_places, xxd}
+use Rattle.dma_manual.specs.Printed.{gdb_x, hexdump, hexdump_canonical, objdump, od, places, short_places, xxd}
 
 -- lines, each with a line feed
 abbrev fed : List (List ℕ) → List ℕ
@@ -205,36 +205,45 @@ row_21 : xxd 16 sample
 unfolding places short_places
 row_21 = refl
 
--- gdb -nx -batch -ex x/{}xb 0x3000 OBJECT
-row_22 : gdb_x Byte 0x3000 sample
-    ≡ fed (codes "0x3000:" ++ (9 ∷ codes "0xbc" ++ (9 ∷ codes "0x01" ++ (9 ∷ codes "0xf7" ++ (9 ∷ codes "0xc2" ++ (9 ∷ codes "0xbd" ++ (9 ∷ codes "0x00" ++ (9 ∷ codes "0xbc" ++ (9 ∷ codes "0x00"))))))))
-    ∷ codes "0x3008:" ++ (9 ∷ codes "0x00" ++ (9 ∷ codes "0x00" ++ (9 ∷ codes "0x00" ++ (9 ∷ codes "0x10" ++ (9 ∷ codes "0xbc" ++ (9 ∷ codes "0x02" ++ (9 ∷ codes "0x00" ++ (9 ∷ codes "0x10"))))))))
-    ∷ codes "0x3010:" ++ (9 ∷ codes "0x20" ++ (9 ∷ codes "0x20" ++ (9 ∷ codes "0x20" ++ (9 ∷ codes "0x28" ++ (9 ∷ codes "0x44" ++ (9 ∷ codes "0x4d" ++ (9 ∷ codes "0x41" ++ (9 ∷ codes "0x2d"))))))))
-    ∷ codes "0x3018:" ++ (9 ∷ codes "0x33" ++ (9 ∷ codes "0x33" ++ (9 ∷ codes "0x30" ++ (9 ∷ codes "0x29" ++ (9 ∷ codes "0x7c" ++ (9 ∷ codes "0x20" ++ (9 ∷ codes "0x7b" ++ (9 ∷ codes "0x7d"))))))))
-    ∷ codes "0x3020:" ++ (9 ∷ codes "0x34" ++ (9 ∷ codes "0x18" ++ (9 ∷ codes "0x00"))) ∷ [])
+-- objdump -s
+row_22 : objdump 4 (codes ".data") 0x3000 sample
+    ≡ fed (codes "Contents of section .data:"
+    ∷ codes " 3000 bc01f7c2 bd00bc00 00000010 bc020010  ................"
+    ∷ codes " 3010 20202028 444d412d 33333029 7c207b7d     (DMA-330)| {}"
+    ∷ codes " 3020 341800                               4..             " ∷ [])
 unfolding places short_places
 row_22 = refl
 
--- gdb -nx -batch -ex x/{}xh 0x3000 OBJECT
-row_23 : gdb_x Half 0x3000 (sample ++ replicate 1 0)
-    ≡ fed (codes "0x3000:" ++ (9 ∷ codes "0x01bc" ++ (9 ∷ codes "0xc2f7" ++ (9 ∷ codes "0x00bd" ++ (9 ∷ codes "0x00bc" ++ (9 ∷ codes "0x0000" ++ (9 ∷ codes "0x1000" ++ (9 ∷ codes "0x02bc" ++ (9 ∷ codes "0x1000"))))))))
-    ∷ codes "0x3010:" ++ (9 ∷ codes "0x2020" ++ (9 ∷ codes "0x2820" ++ (9 ∷ codes "0x4d44" ++ (9 ∷ codes "0x2d41" ++ (9 ∷ codes "0x3333" ++ (9 ∷ codes "0x2930" ++ (9 ∷ codes "0x207c" ++ (9 ∷ codes "0x7d7b"))))))))
-    ∷ codes "0x3020:" ++ (9 ∷ codes "0x1834" ++ (9 ∷ codes "0x0000")) ∷ [])
+-- gdb -nx -batch -ex x/{}xb 0x3000
+row_23 : gdb_x Byte (λ a. None) 0x3000 sample
+    ≡ fed ((codes "0x3000:" ++ (9 ∷ codes "0xbc" ++ (9 ∷ codes "0x01" ++ (9 ∷ codes "0xf7" ++ (9 ∷ codes "0xc2" ++ (9 ∷ codes "0xbd" ++ (9 ∷ codes "0x00" ++ (9 ∷ codes "0xbc" ++ (9 ∷ codes "0x00")))))))))
+    ∷ (codes "0x3008:" ++ (9 ∷ codes "0x00" ++ (9 ∷ codes "0x00" ++ (9 ∷ codes "0x00" ++ (9 ∷ codes "0x10" ++ (9 ∷ codes "0xbc" ++ (9 ∷ codes "0x02" ++ (9 ∷ codes "0x00" ++ (9 ∷ codes "0x10")))))))))
+    ∷ (codes "0x3010:" ++ (9 ∷ codes "0x20" ++ (9 ∷ codes "0x20" ++ (9 ∷ codes "0x20" ++ (9 ∷ codes "0x28" ++ (9 ∷ codes "0x44" ++ (9 ∷ codes "0x4d" ++ (9 ∷ codes "0x41" ++ (9 ∷ codes "0x2d")))))))))
+    ∷ (codes "0x3018:" ++ (9 ∷ codes "0x33" ++ (9 ∷ codes "0x33" ++ (9 ∷ codes "0x30" ++ (9 ∷ codes "0x29" ++ (9 ∷ codes "0x7c" ++ (9 ∷ codes "0x20" ++ (9 ∷ codes "0x7b" ++ (9 ∷ codes "0x7d")))))))))
+    ∷ (codes "0x3020:" ++ (9 ∷ codes "0x34" ++ (9 ∷ codes "0x18" ++ (9 ∷ codes "0x00")))) ∷ [])
 unfolding places short_places
 row_23 = refl
 
--- gdb -nx -batch -ex x/{}xw 0x3000 OBJECT
-row_24 : gdb_x Word 0x3000 (sample ++ replicate 1 0)
-    ≡ fed (codes "0x3000:" ++ (9 ∷ codes "0xc2f701bc" ++ (9 ∷ codes "0x00bc00bd" ++ (9 ∷ codes "0x10000000" ++ (9 ∷ codes "0x100002bc"))))
-    ∷ codes "0x3010:" ++ (9 ∷ codes "0x28202020" ++ (9 ∷ codes "0x2d414d44" ++ (9 ∷ codes "0x29303333" ++ (9 ∷ codes "0x7d7b207c"))))
-    ∷ codes "0x3020:" ++ (9 ∷ codes "0x00001834") ∷ [])
+-- gdb -nx -batch -ex x/{}xh 0x3000
+row_24 : gdb_x Half (λ a. None) 0x3000 (sample ++ replicate 1 0)
+    ≡ fed ((codes "0x3000:" ++ (9 ∷ codes "0x01bc" ++ (9 ∷ codes "0xc2f7" ++ (9 ∷ codes "0x00bd" ++ (9 ∷ codes "0x00bc" ++ (9 ∷ codes "0x0000" ++ (9 ∷ codes "0x1000" ++ (9 ∷ codes "0x02bc" ++ (9 ∷ codes "0x1000")))))))))
+    ∷ (codes "0x3010:" ++ (9 ∷ codes "0x2020" ++ (9 ∷ codes "0x2820" ++ (9 ∷ codes "0x4d44" ++ (9 ∷ codes "0x2d41" ++ (9 ∷ codes "0x3333" ++ (9 ∷ codes "0x2930" ++ (9 ∷ codes "0x207c" ++ (9 ∷ codes "0x7d7b")))))))))
+    ∷ (codes "0x3020:" ++ (9 ∷ codes "0x1834" ++ (9 ∷ codes "0x0000"))) ∷ [])
 unfolding places short_places
 row_24 = refl
 
--- gdb -nx -batch -ex x/{}xg 0x3000 OBJECT
-row_25 : gdb_x Long 0x3000 (sample ++ replicate 5 0)
-    ≡ fed (codes "0x3000:" ++ (9 ∷ codes "0x00bc00bdc2f701bc" ++ (9 ∷ codes "0x100002bc10000000"))
-    ∷ codes "0x3010:" ++ (9 ∷ codes "0x2d414d4428202020" ++ (9 ∷ codes "0x7d7b207c29303333"))
-    ∷ codes "0x3020:" ++ (9 ∷ codes "0x0000000000001834") ∷ [])
+-- gdb -nx -batch -ex x/{}xw 0x3000
+row_25 : gdb_x Word (λ a. None) 0x3000 (sample ++ replicate 1 0)
+    ≡ fed ((codes "0x3000:" ++ (9 ∷ codes "0xc2f701bc" ++ (9 ∷ codes "0x00bc00bd" ++ (9 ∷ codes "0x10000000" ++ (9 ∷ codes "0x100002bc")))))
+    ∷ (codes "0x3010:" ++ (9 ∷ codes "0x28202020" ++ (9 ∷ codes "0x2d414d44" ++ (9 ∷ codes "0x29303333" ++ (9 ∷ codes "0x7d7b207c")))))
+    ∷ (codes "0x3020:" ++ (9 ∷ codes "0x00001834")) ∷ [])
 unfolding places short_places
 row_25 = refl
+
+-- gdb -nx -batch -ex x/{}xg 0x3000
+row_26 : gdb_x Long (λ a. None) 0x3000 (sample ++ replicate 5 0)
+    ≡ fed ((codes "0x3000:" ++ (9 ∷ codes "0x00bc00bdc2f701bc" ++ (9 ∷ codes "0x100002bc10000000")))
+    ∷ (codes "0x3010:" ++ (9 ∷ codes "0x2d414d4428202020" ++ (9 ∷ codes "0x7d7b207c29303333")))
+    ∷ (codes "0x3020:" ++ (9 ∷ codes "0x0000000000001834")) ∷ [])
+unfolding places short_places
+row_26 = refl

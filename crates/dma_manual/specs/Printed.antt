@@ -1,7 +1,7 @@
 -- What tools print of bytes, by their manuals.
-use Rattle.std.specs.Prelude.{ℕ, zero, suc, ◌+◌, ◌-◌, ◌*◌, ◌/◌, ◌%◌, ◌==◌, false, nat_lt, if◌then◌else◌, List, [], ◌∷◌, ◌++◌, codes, drop, flat_map, length, map, replicate, take}
+use Rattle.std.specs.Prelude.{ℕ, zero, suc, ◌+◌, ◌-◌, ◌*◌, ◌/◌, ◌%◌, ◌==◌, ◌&&◌, false, nat_le, nat_lt, if◌then◌else◌, List, [], ◌∷◌, ◌++◌, codes, drop, flat_map, length, map, replicate, take, Option, Some, None}
 use Rattle.std.specs.Fmt.{digit_glyph}
-use Rattle.dma_manual.specs.{Dump.shown_as, Forms.digits_of, Forms.is_octal, Forms.size_of, declared.forms.Group.Group}
+use Rattle.dma_manual.specs.{Forms.digits_of, Forms.is_octal, Forms.size_of, declared.forms.Group.Group}
 use Rattle.dma_manual.specs.declared.forms.Group.TheVariants.{Half}
 
 -- the last k digits of a number in a radix: printf's `%08x` for k = 8 and 16, if the number has no more
@@ -33,9 +33,12 @@ number_of (b ∷ bytes) = b + 256 * number_of bytes
 abbrev pub padding : ℕ → List ℕ → List ℕ
 padding n text = replicate (n - length text) 32
 
--- bytes as characters, with a dot for each that isn't printable
+-- a byte as an ASCII character, or a dot if it isn't printable
+abbrev pub character : ℕ → ℕ
+character c = if nat_le 32 c && nat_le c 126 then c else 46
+
 abbrev pub characters : List ℕ → List ℕ
-characters bytes = map shown_as bytes
+characters bytes = map character bytes
 
 -- lines of bytes, each with the address of its first byte, from the address `at` on
 abbrev pub lines_from : (ℕ → List ℕ → List ℕ) → ℕ → List (List ℕ) → List ℕ
@@ -128,12 +131,31 @@ short_places (suc k) n = if nat_lt n 16 then digit_glyph false n ∷ [] else sho
 abbrev pub marked_groups : Group → List (List ℕ) → List ℕ
 marked_groups group list = flat_map (λ part. 9 ∷ 48 ∷ 120 ∷ group_digits group part) list
 
--- A line of gdb's `x/x` (Debugging with GDB, "Examining Memory"): the address with `0x`, a colon, and groups.
-abbrev pub x_line : Group → ℕ → List ℕ → List ℕ
-x_line group at line =
-    (48 ∷ 120 ∷ short_places 15 at) ++ (58 ∷ (marked_groups group (parts (size_of group) line) ++ 10 ∷ []))
+-- a symbol near an address, which has a name and perhaps an offset, as gdb prints it
+abbrev pub symbol_text : Option (List ℕ) → List ℕ
+symbol_text None = []
+symbol_text (Some name) = codes " <" ++ (name ++ 62 ∷ [])
 
--- What `x/Nxb`, `x/Nxh`, `x/Nxw` and `x/Nxg` print of bytes from an address on, if no symbol is near: eight bytes in a
--- line, or 16 in larger groups.
-abbrev pub gdb_x : Group → ℕ → List ℕ → List ℕ
-gdb_x group at bytes = lines_from (x_line group) at (parts (if size_of group == 1 then 8 else 16) bytes)
+-- A line of gdb's `x/x` (Debugging with GDB, "Examining Memory"): the address with `0x`, its symbol if there is one, a
+-- colon, and groups.
+abbrev pub x_line : Group → (ℕ → Option (List ℕ)) → ℕ → List ℕ → List ℕ
+x_line group symbol at line =
+    (48 ∷ 120 ∷ short_places 15 at) ++ (symbol_text (symbol at) ++ (58 ∷ (marked_groups group (parts (size_of group) line) ++ 10 ∷ [])))
+
+-- What `x/Nxb`, `x/Nxh`, `x/Nxw` and `x/Nxg` print of bytes from an address on: eight bytes in a line, or 16 in larger
+-- groups.
+abbrev pub gdb_x : Group → (ℕ → Option (List ℕ)) → ℕ → List ℕ → List ℕ
+gdb_x group symbol at bytes = lines_from (x_line group symbol) at (parts (if size_of group == 1 then 8 else 16) bytes)
+
+-- A line of `objdump -s` (objdump(1)): a space, the address, 16 bytes in groups of four, and the bytes as characters,
+-- with spaces in place of those that the last line lacks.
+abbrev pub objdump_line : ℕ → ℕ → List ℕ → List ℕ
+objdump_line k at line =
+    let groups = paired_groups (parts 4 line) in
+    let text = characters line in
+    (32 ∷ places 16 k at) ++ (32 ∷ (groups ++ (padding 36 groups ++ (32 ∷ (text ++ (padding 16 text ++ 10 ∷ []))))))
+
+-- What `objdump -s` prints of a section from its title on, with addresses of k digits, which are at least four.
+abbrev pub objdump : ℕ → List ℕ → ℕ → List ℕ → List ℕ
+objdump k name at bytes =
+    codes "Contents of section " ++ (name ++ (58 ∷ 10 ∷ lines_from (objdump_line k) at (parts 16 bytes)))

@@ -1,9 +1,11 @@
 -- What tools print is read back.
-use Rattle.std.specs.Prelude.{◌≡◌, ℕ, ◌+◌, ◌%◌, ◌^◌, ◌<◌, ◌≤◌, List, Option, length, slice_index, Ok, Err}
-use Rattle.dma_manual.specs.{Pasted.Program, Pasted.pasted, declared.pasted.Refused.Refused, declared.pasted.Spelling.TheVariants.Dump}
+use Rattle.std.specs.Prelude.{◌≡◌, ℕ, ◌+◌, ◌%◌, ◌^◌, ◌<◌, ◌≤◌, List, Option, Some, None, length, slice_index, false, ◌==◌, ◌||◌, Ok, Err}
+use Rattle.dma_manual.specs.{Pasted.Program, Pasted.pasted, declared.pasted.Spelling.TheVariants.Dump}
+use Rattle.std.specs.List.{list_any}
+use Rattle.dma_text.specs.Lines.{is_all_spaces}
 use Rattle.dma_manual.specs.{Forms.size_of, declared.forms.Group.Group, declared.forms.Group.TheVariants.Octal as Octals}
 use Rattle.dma_manual.specs.declared.pasted.Refused.TheVariants.{Unsure}
-use Rattle.dma_manual.specs.Printed.{gdb_x, hexdump, hexdump_canonical, md, od, xxd}
+use Rattle.dma_manual.specs.Printed.{gdb_x, hexdump, hexdump_canonical, md, objdump, od, parts, xxd}
 
 -- A program that is read is these bytes; one that is refused is refused as doubtful, and not for a fault.
 abbrev pub IsOrUnsure : List ℕ → Program → Type 0
@@ -44,8 +46,21 @@ MdIsReadBack =
     (group : Group) (at : ℕ) (bytes : List ℕ) → IsDumped bytes → length bytes % size_of group ≡ 0 → at + length bytes ≤ 2 ^ 32
     → IfHex group (IsOrUnsure bytes (pasted Dump (md group at bytes)))
 
--- What gdb's `x` prints of whole groups below 2 ^ 64 is read back.
+-- A symbol's name has no line feed and no colon.
+abbrev pub IsSymbol : Option (List ℕ) → Type 0
+IsSymbol None = Unit {0}
+IsSymbol (Some name) = list_any (λ b. b == 10 || b == 58) name ≡ false
+
+-- What gdb's `x` prints of whole groups below 2 ^ 64 is read back, with symbols or without.
 abbrev pub GdbIsReadBack : Type 0
 GdbIsReadBack =
-    (group : Group) (at : ℕ) (bytes : List ℕ) → IsDumped bytes → length bytes % size_of group ≡ 0 → at + length bytes ≤ 2 ^ 64
-    → IfHex group (IsOrUnsure bytes (pasted Dump (gdb_x group at bytes)))
+    (group : Group) (symbol : ℕ → Option (List ℕ)) (at : ℕ) (bytes : List ℕ) → ((a : ℕ) → IsSymbol (symbol a)) → IsDumped bytes
+    → length bytes % size_of group ≡ 0 → at + length bytes ≤ 2 ^ 64 → IfHex group (IsOrUnsure bytes (pasted Dump (gdb_x group symbol at bytes)))
+
+-- What `objdump -s` prints of a section is read back, unless a line has only spaces: such a line is refused. Its
+-- addresses have four or eight digits, and its name has no line feed.
+abbrev pub ObjdumpIsReadBack : Type 0
+ObjdumpIsReadBack =
+    (name bytes : List ℕ) (at : ℕ) → IsDumped bytes → list_any (λ b. b == 10) name ≡ false → list_any is_all_spaces (parts 16 bytes) ≡ false
+    → (at + length bytes ≤ 2 ^ 16 → IsOrUnsure bytes (pasted Dump (objdump 4 name at bytes)))
+    × (at + length bytes ≤ 2 ^ 32 → IsOrUnsure bytes (pasted Dump (objdump 8 name at bytes)))

@@ -8,9 +8,10 @@
 //! the bytes that it shows, if they are at most 8,192 (`laws::listings_assemble`), and the text of each instruction to
 //! the instruction's bytes (`laws::texts_assemble`); `read_pasted` returns the bytes that digits or a dump spell, as
 //! definitions of their forms say, or why a text spells none; if a text is a dump of some bytes in one of these forms,
-//! `Spelling::Dump` reads no other bytes from it (`laws::dumps_are_read_one_way`).
+//! `Spelling::Dump` reads no other bytes from it (`laws::dumps_are_read_one_way`); what hexdump, od, xxd, md, gdb and
+//! objdump print of bytes, by short definitions, is read as these bytes or refused as doubtful (`printed`).
 //!
-//! Not proved: that syntax and defaults are those of the manual; that tools print dumps in these forms; that an
+//! Not proved: that syntax and defaults are those of the manual; that tools print what the definitions say; that an
 //! allocation succeeds.
 #![tactic(auto)]
 
