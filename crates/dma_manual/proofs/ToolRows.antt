@@ -1,4 +1,4 @@
--- What tools print, computed from its definitions: `tests/printed` compares with the tools.
+-- What tools print, computed from its definitions: `tests/test_printed` compares with the tools.
 use Rattle.std.proofs.Common.{◌≡◌, ℕ, List, [], ◌∷◌, ◌++◌, None, codes, replicate, refl}
 use Rattle.dma_manual.specs.declared.forms.Group.TheVariants.{Byte, Half, Word, Long, Octal}
 use Rattle.dma_manual.specs.Printed.{gdb_x, hexdump, hexdump_canonical, objdump, od, places, short_places, xxd}
