@@ -17,7 +17,7 @@ use Rattle.dma_manual.specs.declared.errors.Note.TheVariants as notes
 
 -- which operand an instruction lacks
 abbrev pub missing_message : Operand → List ℕ
-missing_message operand.Times = codes "lacks a number of times, 1 to 256"
+missing_message operand.Times = codes "lacks a number of rounds, 1 to 256"
 missing_message operand.Event = codes "lacks an event, e0 to e31"
 missing_message operand.Byte = codes "lacks a byte, 0 to 255"
 missing_message operand.Word = codes "lacks a number of 32 bits"
@@ -45,7 +45,7 @@ field_message Destination field.Cache = codes "is not DC0 to DC3 or DC8 to DC11"
 
 -- what is wrong, after the word
 abbrev pub message : AsmCause → List ℕ
-message causes.Name = codes "is no instruction"
+message causes.Name = codes "is not the name of an instruction"
 message (causes.Missing which) = missing_message which
 message causes.Extra = codes "is one word too many"
 message causes.Number = codes "is not a number"

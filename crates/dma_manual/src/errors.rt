@@ -69,7 +69,7 @@ fn message(cause: AsmCause) -> &'static str
     ensures { result.now ≡ message cause }
 {
     match cause {
-        AsmCause::Name => "is no instruction",
+        AsmCause::Name => "is not the name of an instruction",
         AsmCause::Missing(operand) => missing_message(operand),
         AsmCause::Extra => "is one word too many",
         AsmCause::Number => "is not a number",
@@ -104,7 +104,7 @@ fn missing_message(operand: Operand) -> &'static str
     ensures { result.now ≡ missing_message operand }
 {
     match operand {
-        Operand::Times => "lacks a number of times, 1 to 256",
+        Operand::Times => "lacks a number of rounds, 1 to 256",
         Operand::Event => "lacks an event, e0 to e31",
         Operand::Byte => "lacks a byte, 0 to 255",
         Operand::Word => "lacks a number of 32 bits",

@@ -182,7 +182,7 @@ cause_text causes.DropsBytes first next n f = codes "a chip drops what the buffe
 cause_text causes.BytesLeft first next n f = codes "left over in the buffer: " ++ bytes_text f.held
 cause_text causes.StoresTwice first next n f = codes "a byte is stored twice"
 cause_text causes.StoresSource first next n f = codes "a byte is stored where one is loaded"
-cause_text causes.NoEnd first next n f = codes "no end after " ++ count_text n
+cause_text causes.NoEnd first next n f = codes "the program hasn't ended after " ++ count_text n
 cause_text causes.NoMemory first next n f = codes "out of memory"
 cause_text (causes.UsesUnknown r) first next n f = uses_text r next f
 

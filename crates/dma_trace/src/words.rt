@@ -381,7 +381,11 @@ impl Text for Why<'_> {
             Cause::BytesLeft => ("left over in the buffer: ", held).push(out),
             Cause::StoresTwice => "a byte is stored twice".push(out),
             Cause::StoresSource => "a byte is stored where one is loaded".push(out),
-            Cause::NoEnd => ("no end after ", Instructions(u64::from(at.steps))).push(out),
+            Cause::NoEnd => (
+                "the program hasn't ended after ",
+                Instructions(u64::from(at.steps)),
+            )
+                .push(out),
             Cause::NoMemory => "out of memory".push(out),
             Cause::UsesUnknown(register) => Uses { register, at }.push(out),
         }
