@@ -36,7 +36,7 @@ with_cmake() {
     cat >"$out/cmake/CMakeLists.txt" <<'END'
 cmake_minimum_required(VERSION 3.13)
 project(readme C)
-find_package(dma330 1.2 REQUIRED)
+find_package(dma330 1.0 REQUIRED)
 foreach(it dma330 shared)
   add_executable(with_${it} ../readme.c)
   target_link_libraries(with_${it} dma330::${it})

@@ -167,7 +167,7 @@ class Bench:
         most = self.random.randint(1, self.most)
         did = self.device.step_rows(self.random.randrange(self.device.channels), most)
         self.now += max(1, did.count * did.turn.taken)
-        if did.lines_changed:
+        if did.turn.lines_changed:
             self._set_lines()
 
     def _waiting(self, running: List[_Running]) -> str:

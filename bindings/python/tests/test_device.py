@@ -139,7 +139,7 @@ class Devices(unittest.TestCase):
         self.assertRaises(dma330.BadRegions, it.step, 0)
         self.assertRaises(dma330.BadRegions, it.step_rows, 0)
         with self.assertRaises(dma330.BadRegions):
-            it[reg.INTEN] = 1
+            it[reg.DBGCMD] = 0
 
     def test_threads_with_a_device_each_share_memory(self):
         ram = bytearray(os.urandom(0x40000)) + bytearray(0x40000)

@@ -156,7 +156,7 @@ impl Device {
     /// Writes the register at an offset, for the guest. A write to an offset without a register that can be written is
     /// ignored. A DMAGO reads its program from the memory, as [`Channel::load_from`](crate::Channel::load_from) does.
     ///
-    /// Fails with `BadRegions`.
+    /// Fails with `BadRegions`, which only a write to DBGCMD (0xD04) tests.
     pub fn write(&mut self, offset: u32, value: u32, regions: &[Region<'_>]) -> Result<(), Error> {
         self.handle.write(offset, value, regions)
     }

@@ -117,9 +117,10 @@ fn regions_out_of_order_are_refused() -> Result<(), Error> {
     let (mut low, mut high) = ([0; 16], [0; 16]);
     let mut device = Device::open(CONFIG)?;
     let mut lent = [Region::new(RAM + 16, &mut high), Region::new(RAM, &mut low)];
-    assert_eq!(device.write(0x020, 1, &lent), Err(Error::BadRegions));
+    assert_eq!(device.write(0xD04, 0, &lent), Err(Error::BadRegions));
     assert_eq!(device.step(0, 1, &mut lent), Err(Error::BadRegions));
-    assert_eq!(device.read(0x020), 0);
+    assert_eq!(device.read(0x030), 0); // FSRD
+    assert_eq!(device.write(0x020, 1, &lent), Ok(()));
     Ok(())
 }
 
