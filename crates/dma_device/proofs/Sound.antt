@@ -200,13 +200,14 @@ with_new d n old new h is kept sound = record {
   count = length-set d.threads.items n new ∙ h.count;
   sound = thread_sound (device_value d) n new h.sound sound;
   on = on_kept d.config.bus d.threads.items n old new h.on is kept;
+  marks = h.marks;
 }
 
 -- all threads, the manager and the registers are replaced
-pub with_parts : (d e : Inside) (ts : List Thread) → IsDevice d → e.threads ≡ with_items d.threads ts → e.config ≡ d.config
+pub with_parts : (d e : Inside) (ts : List Thread) → IsDevice d → e.threads ≡ with_items d.threads ts → e.config ≡ d.config → e.no_marks ≡ d.no_marks
     → length ts ≡ d.threads.len → length ts ≡ length d.threads.items → All (IsSound d.config.events) ts → AreOn d.config.bus ts
     → HasKnownEvents (head_of (device_value e)) → IsDevice e
-with_parts d e ts h threads config len count sound on known = grind (arith, with_items_is)
+with_parts d e ts h threads config marks len count sound on known = grind (arith, with_items_is)
 
 -- the events change
 pub with_events : (d : Inside) (events interrupts inten : ℕ) → IsDevice d → events < 2 ^ d.config.events → interrupts < 2 ^ d.config.events

@@ -11,6 +11,7 @@ ghost use Rattle.std.specs.List.{list_any};
 use crate::config::{BusWidth, Config, NewFault};
 use crate::device::registers::any_faulting;
 use crate::thread::Thread;
+use dma_mem::marks::Marks;
 use dma_mem::no_memory::NoMemory;
 use std::alloc::Global;
 use std::marker::Model;
@@ -44,6 +45,8 @@ pub struct Device {
     dbginst1: u32,
     manager: Manager,
     threads: Vec<Thread>,
+    // The bursts of its channels fail at no marks, only outside the regions and in those that are read-only.
+    no_marks: Marks,
 }
 
 impl Model for Device {
@@ -129,6 +132,7 @@ impl Device {
                 fault: 0,
             },
             threads,
+            no_marks: Marks::new(alloc),
         })
     }
 

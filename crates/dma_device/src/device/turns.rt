@@ -9,7 +9,6 @@ use crate::device::Device;
 use dma_chan::lent::step_regions;
 use dma_insn::insn::Event;
 use dma_mem::events::Events;
-use dma_mem::marks::Marks;
 use dma_mem::regions::Region;
 use dma_mem::segment::Segment;
 
@@ -106,9 +105,14 @@ impl Device {
     {
         let config = self.config;
         let mut events = Events::from_bits(self.visible_events());
-        let marks = Marks::new(*self.threads.allocator());
         let thread = &mut self.threads[n];
-        let taken = step_regions(&mut thread.channel, regions, &mut events, &marks, most);
+        let taken = step_regions(
+            &mut thread.channel,
+            regions,
+            &mut events,
+            &self.no_marks,
+            most,
+        );
         thread.answer(config.events, taken.last, taken.signal);
         self.set_flags(events.bits());
         Called {

@@ -50,9 +50,10 @@ returns-clause-calls c =
     let few : c.bits.result < 2 ^ 32 = omega arith in
     let device : c.set_flags.new.self ≡ with_thread n (answered d.config.events (record t { channel = new.channel }) did.last did.signal)
     (with_flags c.bits.result d) = search rules in
-    let steps = rw (c.new-marks.ensures, seen) at x.steps in
-    let signal = rw (c.new-marks.ensures, seen) at x.signal in
-    let written = rw (c.new-marks.ensures, seen) at x.written in
+    let none = c.self.invariant.marks in
+    let steps = rw (none, seen) at x.steps in
+    let signal = rw (none, seen) at x.signal in
+    let written = rw (none, seen) at x.written in
     ap (λ (o : Option Thread). called (marks_in old) n c.args.most o (setup_of d old)) found
     ∙ stepped_is (marks_in old) c.args.most t (setup_of d old) n c.bits.result (machine new.channel (image_of (pieces_of new.regions)) new.events) did.last made
     few (sym c.bits.ensures) steps signal written

@@ -33,7 +33,7 @@ pub invariant_of-self : goal.invariant_of-self
 invariant_of-self c =
     let d = c.self.inside in
     let new = c.restore_threads.new.threads in
-    with_parts d _ new c.self.invariant refl refl (same_length (goal.at.invariant_of-self c).After-restore_threads)
+    with_parts d _ new c.self.invariant refl refl refl (same_length (goal.at.invariant_of-self c).After-restore_threads)
     (c.restore_threads.auto.threads ∙ ap length c.deref_mut.ensures.value) c.restore_threads.ensures.sound
     (are_on d.config.bus new c.restore_threads.ensures.on) c.self.invariant.sound.known
 
@@ -53,7 +53,7 @@ invariant_of-self-2 c =
     let new = c.restore_threads.new.threads in
     let len : length new ≡ d.threads.len = omega (arith, c.restore_threads.auto.threads, c.deref_mut.ensures.len) in
     let known = known_on c.in-Some.head d.config c.in-Some.ensures.config c.in-Some.ensures.known in
-    with_parts d _ new c.self.invariant refl refl len (c.restore_threads.auto.threads ∙ ap length c.deref_mut.ensures.value)
+    with_parts d _ new c.self.invariant refl refl refl len (c.restore_threads.auto.threads ∙ ap length c.deref_mut.ensures.value)
     c.restore_threads.ensures.sound (are_on d.config.bus new c.restore_threads.ensures.on)
     (record { events = known.events; interrupts = known.interrupts; inten = known.inten })
 
