@@ -79,7 +79,7 @@ const HEX: Argument = Argument {
     name: "hex",
     form: Form::Flag,
     rule: Rule::None,
-    what: "FILE is text: pairs of hexadecimal digits, and comments after #; or a dump",
+    what: "Read FILE as text: pairs of hexadecimal digits with comments after #, or a dump",
 };
 
 /// Words in hexadecimal text.
@@ -87,7 +87,7 @@ const WORDS: Argument = Argument {
     name: "words",
     form: Form::Flag,
     rule: Rule::Without("hex"),
-    what: "FILE is text: 32-bit words of eight hexadecimal digits, as debuggers print them; or a dump",
+    what: "Read FILE as text: 32-bit words of eight hexadecimal digits, as debuggers print them, or a dump",
 };
 
 /// A dump. (`trace` has another option of this name.)
@@ -95,7 +95,7 @@ const DUMP: Argument = Argument {
     name: "dump",
     form: Form::Flag,
     rule: Rule::WithoutBoth("hex", "words"),
-    what: "FILE is a dump, as hexdump, xxd, od, md, gdb, objdump -s or a log has it, or an array",
+    what: "Read FILE as a dump, as hexdump, xxd, od, md, gdb, objdump -s or a log has it, or as an array",
 };
 
 /// The bus.
@@ -103,7 +103,7 @@ const BUS: Argument = Argument {
     name: "bus",
     form: Form::Value("BITS"),
     rule: Rule::OneOf(&["32", "64", "128", "ideal"], "128"),
-    what: "Width of the data bus; ideal: each beat whole at any address, as in dmasim",
+    what: "Take a data bus of this width; on ideal, the bus of dmasim, each beat is whole at any address",
 };
 
 static DIS: Usage = Usage {
@@ -115,7 +115,7 @@ static DIS: Usage = Usage {
             name: "at",
             form: Form::Value("ADDRESS"),
             rule: Rule::None,
-            what: "Address of the first byte [default: 0]",
+            what: "Begin at this address [default: 0]",
         },
         HEX,
         WORDS,
@@ -158,7 +158,7 @@ static EXPLAIN: Usage = Usage {
             name: "registers",
             form: Form::Value("NAME=VALUE,.."),
             rule: Rule::None,
-            what: "SAR, DAR, CCR, LC0 or LC1 at the start [default: none is known]",
+            what: "Begin with these values of SAR, DAR, CCR, LC0 or LC1 [default: any values]",
         },
         PROGRAM,
     ],
@@ -178,7 +178,7 @@ static TRACE: Usage = Usage {
             name: "ram",
             form: Form::Values("ADDRESS+LENGTH[=FILE]"),
             rule: Rule::None,
-            what: "RAM: 0, or the bytes of FILE and then 0 [default: 0, at the ranges that explain finds]",
+            what: "Make RAM of the bytes of FILE and then 0 [default: 0, at the ranges that explain finds]",
         },
         Argument {
             name: "fail",
@@ -242,7 +242,7 @@ static RACE: Usage = Usage {
             name: "seed",
             form: Form::Value("N"),
             rule: Rule::None,
-            what: "What the order is drawn from",
+            what: "Take the turns in the order that is drawn from N",
         },
         Argument {
             name: "seeds",
@@ -254,7 +254,7 @@ static RACE: Usage = Usage {
             name: "script",
             form: Form::Value("FILE"),
             rule: Rule::None,
-            what: "Write the same as a script of dmasim run, with the turns as step lines",
+            what: "Write a script of dmasim run that does the same, with the turns as step lines",
         },
         SCRIPT,
     ],
