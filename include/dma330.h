@@ -1,30 +1,47 @@
-/* A verified software DMA controller (ARM DMA-330, memory to memory) for programs in C, from C89 on, and in C++.
+/* A software model of the ARM DMA-330 (PL330), a DMA controller, for copies between memories: for programs in C, from
+ * C89 on, and in C++. Link it with libdma330.a. docs/PROOFS.md says what is proved of it, and what isn't.
  *
- * Link it with libdma330.a. The proofs assume these duties of the caller, and nothing checks them:
- * - Before its first call a dma330_controller is DMA330_CONTROLLER_INIT, a dma330_channel DMA330_CHANNEL_INIT and a
- *   dma330_device DMA330_DEVICE_INIT (zeros). Their members are the library's: the caller doesn't change them. An open
- *   one is not copied; it may be moved, and its old place is zeroed before it is used again. It holds memory from its
- *   open to its close.
- * - One call at a time uses it. Calls from several threads are ordered by a lock, a thread's start or join, or a
- *   sequentially consistent atomic. No call comes from a signal handler, or from the child of a fork of a program with
- *   threads.
- * - No pointer is null, not even one to zero elements. Each is aligned, and has as many elements as its count says. No
- *   two pointers of a call overlap, except lists that are only read; nor do the bytes of two regions: RAM that a guest
- *   sees at two addresses is lent at one. The library keeps no pointer after a call.
- * - While a call runs, nobody else writes what its pointers point to, or reads what it writes, except a guest's
- *   running processors, which may read and write the bytes of regions: see "Beside running processors" in
- *   docs/DEVICES.md.
- * - 32 KiB of stack are free; the most that was measured is 28.
- * - malloc, realloc and free are one allocator. It aligns a block to each power of two up to 16 that divides its size.
+ * There are three kinds of things, for three uses. These are the calls of each with which to begin:
+ * - A device has the registers of a PL330. Take it if a guest's driver writes registers: forward the guest's accesses
+ *   (dma330_device_read, dma330_device_write), let the channels run (dma330_device_step), and set interrupt lines
+ *   (dma330_device_lines). docs/DEVICES.md puts one into an emulator.
+ * - A controller takes lists of bytes to copy. Take it if you have no registers and no programs: queue a copy
+ *   (dma330_submit, dma330_issue), let it run (dma330_step), and ask how it finished (dma330_result). It has a memory
+ *   of its own, which you write and read by calls. docs/CONTROLLERS.md begins with an example.
+ * - A channel executes one program in memory of yours. Take it if you have a program: load it
+ *   (dma330_channel_load_from, dma330_channel_load_copy), and let it run (dma330_channel_step).
  *
- * A call returns DMA330_OK, which is 0, or a negative code; dma330_status returns a state instead of DMA330_OK. A
- * call's comment lists its codes in the order in which they are tested; the first that applies is returned.
- * DMA330_NOT_OPEN comes before all others. A refused call, which returns a negative code, changes nothing and writes
- * no output, except `*place` where the code has a place, `*conflict` for DMA330_BUSY and DMA330_RUNNING,
- * `*explanation` for DMA330_UNEXPLAINED and DMA330_BUFFER_TOO_SMALL, and a device for DMA330_BAD_SAVE.
+ * Each is opened before its other calls, and closed after them. Besides, dma330_explain says what a program copies
+ * before it runs, and dma330_plan writes the program of a copy.
  *
- * Addresses and lengths of segments have 32 bits, channels and events 8: test a guest's number before you narrow it. A
- * list of more than 64 segments may be cut to 65, which is refused too. */
+ * You have eight duties. The proofs assume them, and nothing checks them; docs/CONTROLLERS.md says what happens if one
+ * is broken:
+ * 1. Before its first call a dma330_controller is DMA330_CONTROLLER_INIT, a dma330_channel DMA330_CHANNEL_INIT and a
+ *    dma330_device DMA330_DEVICE_INIT, which are zeros. You don't change their members: they are the library's.
+ * 2. An open one is not copied, since the copy would use the same memory. It may be moved: then zero its old place
+ *    before you use that again. It holds memory from its open to its close.
+ * 3. One call at a time uses it, since the library takes no lock. Order calls from several threads by a lock, by a
+ *    thread's start or join, or by a sequentially consistent atomic.
+ * 4. No call comes from a signal handler, or from the child of a fork of a program with threads, where another call may
+ *    be half done.
+ * 5. No pointer is null, not even one to zero elements. Each is aligned, and has as many elements as its count says. No
+ *    two pointers of a call overlap, except lists that are only read; nor do the bytes of two regions, so lend RAM that
+ *    a guest sees at two addresses at one of them. The library keeps no pointer after a call.
+ * 6. While a call runs, nobody else writes what its pointers point to, or reads what it writes. There is one exception:
+ *    a guest's running processors may read and write the bytes of regions. "Beside running processors" in
+ *    docs/DEVICES.md says what they then see.
+ * 7. 32 KiB of stack are free; the most that was measured is 28.
+ * 8. malloc, realloc and free are one allocator. It aligns a block to 16 bytes, or to the largest power of two that
+ *    divides the block's size, if that is less.
+ *
+ * A call returns DMA330_OK, which is 0, or a negative code. (dma330_status returns a state in place of DMA330_OK.) The
+ * comment of a call lists its codes, without DMA330_, in the order in which they are tested: the first that applies is
+ * returned. NOT_OPEN isn't listed. It comes before all others, from each call that has a controller, a channel or a
+ * device, except open and close. A call that returns a negative code is refused: it has changed nothing and written no
+ * output, except where its comment says so. The comment of enum dma330_code says what to do about each code.
+ *
+ * Addresses and lengths of segments have 32 bits, channels and events 8: test a guest's number before you make it
+ * narrower. A list of more than 64 segments is refused; you may cut it to 65, which is refused too. */
 #ifndef DMA330_H
 #define DMA330_H
 
@@ -35,8 +52,8 @@
 extern "C" {
 #endif
 
-/* The version, by numbers for #if, and as dma330_version writes it. CHANGES.md has the rule: a program for this version
- * works with all later ones of the same MAJOR. */
+/* The version, by numbers for #if, and as dma330_version writes it. A program for this version works with all later
+ * ones of the same MAJOR: CHANGES.md has the rule. */
 #define DMA330_VERSION_MAJOR 1
 #define DMA330_VERSION_MINOR 0
 #define DMA330_VERSION_PATCH 0
@@ -55,11 +72,11 @@ extern "C" {
 /* A program may begin with any registers: dma330_start start = DMA330_ANY_REGISTERS; (or one cleared by memset) */
 #define DMA330_ANY_REGISTERS {0, 0, 0, 0, 0, 0}
 
-/* No event to wait for, or to signal; so is each other negative number. */
+/* No event to wait for, or none to signal. Any negative number means none. */
 #define DMA330_NO_EVENT (-1)
 
 /* The most segments of a list, bytes of a transfer, bytes of a program, channels of a controller or device, regions of
- * the caller's memory, and bytes of a channel's and of a device's save. */
+ * your memory, and bytes of a channel's and of a device's save. */
 #define DMA330_MAX_SEGMENTS 64
 #define DMA330_MAX_BYTES 1048576
 #define DMA330_MAX_PROGRAM 8192
@@ -77,7 +94,7 @@ extern "C" {
 #define DMA330_NO_NULLS
 #endif
 
-/* A controller, which the caller keeps; its members are the library's own. */
+/* A controller, which you keep; its members are the library's own. */
 typedef struct dma330_controller {
     void *engine;
     uint8_t is_open;
@@ -95,14 +112,15 @@ typedef struct dma330_outcome {
     uint32_t residue; /* the number of its bytes that were not stored */
 } dma330_outcome;
 
-/* The running transfer that caused DMA330_BUSY or DMA330_RUNNING: of several the one on the lowest channel. */
+/* The running transfer that is in the way, if a call returns DMA330_BUSY or DMA330_RUNNING. If there are several, it is
+ * the one on the lowest channel. */
 typedef struct dma330_conflict {
     uint32_t channel;
     uint32_t cookie;
 } dma330_conflict;
 
-/* The transfer that runs on a channel: from the step that starts it to the step that finishes it or the call that
- * terminates it, also while it waits for an event. */
+/* The transfer that runs on a channel. It runs from the step that starts it to the step that finishes it or the call
+ * that terminates it, also while it waits for an event. */
 typedef struct dma330_run {
     uint32_t cookie;
     uint32_t stored; /* the number of its bytes that are stored so far */
@@ -119,8 +137,9 @@ typedef struct dma330_report {
     uint32_t residue; /* of DMA330_FINISHED: the number of its bytes that were not stored */
 } dma330_report;
 
-/* A part of the caller's memory, whose first byte is at address `addr`. An initializer that leaves out `read_only` sets
- * it to 0; code that sets the members one by one must set it too. */
+/* A part of your memory, whose first byte a channel sees at address `addr`. You lend it to a call: the library may use
+ * these bytes until the call returns. An initializer that leaves out `read_only` sets it to 0; code that sets the
+ * members one by one must set it too. */
 typedef struct dma330_region {
     uint32_t addr;
     uint8_t *bytes;
@@ -128,7 +147,7 @@ typedef struct dma330_region {
     uint32_t read_only; /* 0 for RAM; any other number for ROM: loads and programs read it, and stores to it fail */
 } dma330_region;
 
-/* A channel, which the caller keeps and steps over the caller's memory; its members are the library's own. */
+/* A channel, which you keep, and which runs in your memory; its members are the library's own. */
 typedef struct dma330_channel {
     void *channel;
     uint8_t is_open;
@@ -143,7 +162,8 @@ typedef struct dma330_channel_report {
     uint32_t pc;    /* the offset of the next instruction: of WAITING and FAULT that of the one that waits or failed, of
                      * ENDED that of the DMAEND */
     dma330_segment written; /* the range that the steps wrote: each byte in it, some perhaps with the value that it had;
-                             * no other byte of the regions has changed. Its len is 0 if they wrote nothing */
+                             * no other byte of the regions has changed. Its len is 0 if they wrote nothing. It may end
+                             * at 2^32, so add addr and len in 64 bits */
 } dma330_channel_report;
 
 /* A channel's registers and counts. */
@@ -159,7 +179,7 @@ typedef struct dma330_registers {
     uint64_t stored;   /* the number of bytes stored since then */
 } dma330_registers;
 
-/* A device, which the caller keeps; its members are the library's own. */
+/* A device, which you keep; its members are the library's own. */
 typedef struct dma330_device {
     void *device;
     uint8_t is_open;
@@ -175,7 +195,7 @@ typedef struct dma330_device_config {
     uint32_t revision;  /* 0 for r0p0, 1 for r1p0, 2 for r1p1, 3 for r1p2; Linux uses barriers only for r0p0 */
 } dma330_device_config;
 
-/* What dma330_device_step did. */
+/* What a turn did, which is what one call of dma330_device_step does. */
 typedef struct dma330_device_turn {
     dma330_segment written; /* its steps wrote each byte of this range, some perhaps with the value that it had; no byte
                              * elsewhere has changed. Its len is 0 if they wrote nothing. It may end at 2^32, so add
@@ -195,7 +215,7 @@ typedef struct dma330_device_rows {
     uint32_t steps;          /* each turn is what dma330_device_step does with this `most` */
 } dma330_device_rows;
 
-/* How a program that ran alone ended. A member is 0 unless its comment names the end. */
+/* How a program ended that dma330_run_program ran. A member is 0 unless its comment names the end. */
 typedef struct dma330_run_end {
     uint32_t end;   /* enum dma330_end */
     uint32_t steps; /* of DMA330_END_ENDED: the number of executed instructions, DMAEND included */
@@ -278,10 +298,11 @@ enum dma330_result_code {
 /* The state of a cookie. One that isn't issued yet is in progress; one that failed or was aborted is complete. */
 enum dma330_state { DMA330_UNKNOWN = 0, DMA330_IN_PROGRESS = 1, DMA330_COMPLETE = 2 };
 
-/* The accesses to a range that fail. */
+/* The accesses to a range that an injected error lets fail. */
 enum dma330_access { DMA330_READS = 0, DMA330_WRITES = 1 };
 
-/* How a program that ran alone ended. OUT_OF_STEPS: it hasn't, after as many instructions as were allowed. */
+/* How a program ended that dma330_run_program ran. OUT_OF_STEPS: it hasn't, after as many instructions as were
+ * allowed. */
 enum dma330_end { DMA330_END_OUT_OF_STEPS = 0, DMA330_END_ENDED = 1, DMA330_END_WAITING = 2, DMA330_END_FAULT = 3 };
 
 /* The manual's faults of a channel. */
@@ -306,11 +327,12 @@ enum dma330_known {
     DMA330_KNOWN_ALL = 31
 };
 
+/* Whether an instruction waits for an event (DMAWFE) or signals one (DMASEV). */
 enum dma330_event_kind { DMA330_WAITS = 0, DMA330_SIGNALS = 1 };
 
-/* Why a call doesn't explain a program. Causes 1 to 5 have the numbers of enum dma330_fault: in every memory the
- * instruction fails so. Its numbers 6 and 7 are missing here, since only a memory makes an instruction fail so. From 9
- * on, a store may be a DMASTZ. */
+/* Why a call doesn't explain a program; docs/EXPLANATIONS.md has an example and a remedy for each cause. Causes 1 to 5
+ * have the numbers of enum dma330_fault: in every memory the instruction fails so. The numbers 6 and 7 are missing
+ * here, since only a memory makes an instruction fail so. From 9 on, a store may be a DMASTZ. */
 enum dma330_cause {
     DMA330_CAUSE_NONE = 0,
     DMA330_CAUSE_UNDEF_INSTR = 1,
@@ -336,8 +358,8 @@ enum dma330_cause {
     DMA330_CAUSE_UNSET_LC1 = 20
 };
 
-/* The status of a channel, bits 3:0 of CSR (manual, channel status registers). A device of this library has those whose
- * comment says so. */
+/* The status of a channel, which are bits 3:0 of CSR (manual, channel status registers). A device of this library has
+ * only those whose comment says so. */
 enum dma330_csr {
     DMA330_CSR_STOPPED = 0,           /* here too */
     DMA330_CSR_EXECUTING = 1,         /* here too */
@@ -379,13 +401,13 @@ enum dma330_ftrd {
 };
 
 /* What a call returns. What to do about a refusal:
- * - Fix the emulator: NOT_OPEN, ALREADY_OPEN, BAD_CHANNELS, SIZE_OUT_OF_RANGE, BAD_ACCESS, BUFFER_TOO_SMALL,
- *   NO_PROGRAM, BAD_REGIONS, BAD_CONFIG. (BUFFER_TOO_SMALL and NO_PROGRAM of calls that explain a guest's program are
- *   no errors.)
+ * - Fix your program: NOT_OPEN, ALREADY_OPEN, BAD_CHANNELS, SIZE_OUT_OF_RANGE, BAD_ACCESS, BUFFER_TOO_SMALL,
+ *   NO_PROGRAM, BAD_REGIONS, BAD_CONFIG. (If a call explains a guest's program, BUFFER_TOO_SMALL and NO_PROGRAM are no
+ *   errors.)
  * - Report it to the guest, or to whoever wrote the program or the text: EMPTY_LIST to SOURCE_MEETS_DESTINATION,
  *   BAD_EVENT, NO_CHANNEL, OUT_OF_MEMORY_RANGE, BAD_RANGE, PROGRAM_TOO_LONG, BAD_MNEMONIC to BAD_FIELD, UNEXPLAINED.
- * - Step the channel in `*conflict` (or resume or terminate it, or raise its event), handle the report, and try again:
- *   BUSY, RUNNING.
+ * - Step the channel in `*conflict`, handle the report, and try again: BUSY, RUNNING. If the channel is paused, resume
+ *   it; if its transfer waits for an event, raise that; or terminate it.
  * - Free something, and try again: NO_MEMORY.
  * - Open a new controller: COOKIES_SPENT, STEPS_SPENT.
  * - The snapshot is damaged, or of another version or device: BAD_SAVE, OTHER_DEVICE.
@@ -455,7 +477,7 @@ enum dma330_code {
 #define DMA330_NAMED_FTR(name) case DMA330_FTR_##name: return #name;
 #define DMA330_NAMED_FTRD(name) case DMA330_FTRD_##name: return #name;
 
-/* Returns the name of a code without DMA330_, as "BUSY" for DMA330_BUSY; "?" if no code has this number. */
+/* Returns the name of a code without DMA330_, for example "BUSY" for DMA330_BUSY; "?" if no code has this number. */
 DMA330_INLINE const char *dma330_code_name(int32_t code)
 {
     switch (code) {
@@ -474,8 +496,8 @@ DMA330_INLINE const char *dma330_code_name(int32_t code)
     }
 }
 
-/* Returns the name of what a step did, an enum dma330_last_step, as "MOVED" for DMA330_MOVED; "?" if none has this
- * number. */
+/* Returns the name of what a step did, an enum dma330_last_step, for example "MOVED" for DMA330_MOVED; "?" if none has
+ * this number. */
 DMA330_INLINE const char *dma330_last_step_name(uint32_t last)
 {
     switch (last) {
@@ -486,7 +508,7 @@ DMA330_INLINE const char *dma330_last_step_name(uint32_t last)
     }
 }
 
-/* Returns the name of a cause without DMA330_CAUSE_, as "NO_END" for DMA330_CAUSE_NO_END; "?" if none has this
+/* Returns the name of a cause without DMA330_CAUSE_, for example "NO_END" for DMA330_CAUSE_NO_END; "?" if none has this
  * number. */
 DMA330_INLINE const char *dma330_cause_name(uint32_t cause)
 {
@@ -502,7 +524,7 @@ DMA330_INLINE const char *dma330_cause_name(uint32_t cause)
     }
 }
 
-/* Returns the name of a fault, an enum dma330_fault, as "MFIFO_ERR" for DMA330_MFIFO_ERR; "?" if none has this
+/* Returns the name of a fault, an enum dma330_fault, for example "MFIFO_ERR" for DMA330_MFIFO_ERR; "?" if none has this
  * number. */
 DMA330_INLINE const char *dma330_fault_name(uint32_t fault)
 {
@@ -514,8 +536,8 @@ DMA330_INLINE const char *dma330_fault_name(uint32_t fault)
     }
 }
 
-/* Returns the name of a result, an enum dma330_result_code, as "ABORTED" for DMA330_ABORTED; "?" if none has this
- * number. */
+/* Returns the name of a result, an enum dma330_result_code, for example "ABORTED" for DMA330_ABORTED; "?" if none has
+ * this number. */
 DMA330_INLINE const char *dma330_result_name(uint32_t result)
 {
     switch (result) {
@@ -524,7 +546,7 @@ DMA330_INLINE const char *dma330_result_name(uint32_t result)
     }
 }
 
-/* Returns the name of the status in bits 3:0 of a CSR, as "EXECUTING" for DMA330_CSR_EXECUTING; "?" if it is
+/* Returns the name of the status in bits 3:0 of a CSR, for example "EXECUTING" for DMA330_CSR_EXECUTING; "?" if it is
  * reserved. */
 DMA330_INLINE const char *dma330_csr_name(uint32_t csr)
 {
@@ -537,8 +559,8 @@ DMA330_INLINE const char *dma330_csr_name(uint32_t csr)
     }
 }
 
-/* Returns the name of bit number `bit` of a channel's FTR, as "MFIFO_ERR" for DMA330_FTR_MFIFO_ERR, 12; "?" if it is
- * reserved. */
+/* Returns the name of bit number `bit` of a channel's FTR, for example "MFIFO_ERR" for DMA330_FTR_MFIFO_ERR, 12; "?" if
+ * it is reserved. */
 DMA330_INLINE const char *dma330_ftr_name(uint32_t bit)
 {
     switch (bit) {
@@ -567,7 +589,10 @@ DMA330_INLINE const char *dma330_ftrd_name(uint32_t bit)
 #undef DMA330_NAMED_CAUSE
 #undef DMA330_INLINE
 
-/* ---- a controller and its memory ---- */
+/* ---- a controller and its memory ----
+ *
+ * A controller copies within a memory of its own, whose addresses begin at 0. Between calls nothing happens: the
+ * library has no threads, timers or callbacks. */
 
 /* Opens a controller with a memory of `size` zeros and with `channels` channels. It takes 2 KiB, 9,200 bytes for each
  * channel, and 24 bytes for each 4 MiB of the memory. When a page of 4,096 bytes is first written, or a transfer to it
@@ -578,40 +603,46 @@ int32_t dma330_open(dma330_controller *controller, uint32_t size, uint8_t channe
 /* Frees what an open controller holds; it may be opened again. Does nothing if it isn't open. */
 void dma330_close(dma330_controller *controller) DMA330_NO_NULLS;
 
-/* Writes bytes into the memory from an address on, also where an error is injected. Codes: OUT_OF_MEMORY_RANGE, BUSY
- * if a running transfer reads or writes one of the addresses, NO_MEMORY. */
+/* Writes bytes into the memory from an address on, also where an error is injected. Codes: OUT_OF_MEMORY_RANGE, BUSY if
+ * a running transfer reads or writes one of the addresses (`*conflict` then names it), NO_MEMORY. */
 int32_t dma330_write(dma330_controller *controller, uint32_t addr, const uint8_t *bytes, size_t len,
                      dma330_conflict *conflict) DMA330_NO_NULLS;
 
 /* Reads `len` bytes of the memory from an address on, also where an error is injected. The history keeps a copy of
- * them, so read gigabytes in parts. Codes: OUT_OF_MEMORY_RANGE, BUSY if a running transfer writes one of the
- * addresses, NO_MEMORY. */
+ * them, so read gigabytes in parts, and empty the history by dma330_checkpoint. Codes: OUT_OF_MEMORY_RANGE, BUSY if a
+ * running transfer writes one of the addresses (`*conflict` then names it), NO_MEMORY. */
 int32_t dma330_read(dma330_controller *controller, uint32_t addr, uint8_t *out, size_t len,
                     dma330_conflict *conflict) DMA330_NO_NULLS;
 
-/* ---- transfers ---- */
+/* ---- transfers ----
+ *
+ * A transfer is a copy or a fill. It is submitted, issued, and then executed step by step: the first step starts it,
+ * each further one executes an instruction of the program that the controller has made for it, and the last one
+ * finishes it. From its start to its finish it runs. Two transfers conflict if one writes where the other reads or
+ * writes. Such two never run at the same time: the second is held until the first has finished. */
 
-/* Queues a copy of the source list's bytes to the places of the destination list on a channel, and writes its cookie,
- * 1 for the first of the channel. It waits for the event `wait` before it begins, and signals `signal` once all is
- * stored; one that fails or is aborted doesn't signal. It doesn't start before dma330_issue, and not while a running
- * transfer uses an address that it writes, or writes one that it uses. A halted channel accepts it, and
- * dma330_terminate aborts it with the rest. Each rule is tested over both lists before the next. Codes: EMPTY_LIST,
- * TOO_MANY_SEGMENTS, EMPTY_SEGMENT, SEGMENT_WRAPS, TOTALS_DIFFER, TOO_LONG, DESTINATIONS_MEET,
- * SOURCE_MEETS_DESTINATION, BAD_EVENT, NO_MEMORY, NO_CHANNEL, OUT_OF_MEMORY_RANGE, COOKIES_SPENT, NO_MEMORY. */
+/* Queues a copy on a channel, and writes its cookie, which is its number on the channel, 1 for the first. The bytes of
+ * the source list go to the places of the destination list, in their order. It starts after dma330_issue, and once no
+ * running transfer conflicts with it. Then it waits for the event `wait`, copies, and signals the event `signal` once
+ * all is stored; one that fails or is aborted doesn't signal. A halted channel accepts it, and dma330_terminate aborts
+ * it with the rest. Each rule is tested over both lists before the next. Codes: EMPTY_LIST, TOO_MANY_SEGMENTS,
+ * EMPTY_SEGMENT, SEGMENT_WRAPS, TOTALS_DIFFER, TOO_LONG, DESTINATIONS_MEET, SOURCE_MEETS_DESTINATION, BAD_EVENT,
+ * NO_MEMORY, NO_CHANNEL, OUT_OF_MEMORY_RANGE, COOKIES_SPENT, NO_MEMORY. */
 int32_t dma330_submit(dma330_controller *controller, uint8_t channel, const dma330_segment *src, size_t src_count,
                       const dma330_segment *dst, size_t dst_count, int32_t wait, int32_t signal,
                       uint32_t *cookie) DMA330_NO_NULLS;
 
-/* Queues a fill, which copies the byte at address `src` to every place of the destination list, as dma330_submit
- * queues a copy, with the same codes except TOTALS_DIFFER. */
+/* Queues a fill, as dma330_submit queues a copy. It copies the byte at address `src` to every place of the destination
+ * list. Codes: those of dma330_submit except TOTALS_DIFFER. */
 int32_t dma330_submit_fill(dma330_controller *controller, uint8_t channel, uint32_t src, const dma330_segment *dst,
                            size_t dst_count, int32_t wait, int32_t signal, uint32_t *cookie) DMA330_NO_NULLS;
 
-/* Allows all submitted transfers of a channel to start, and writes how many were not allowed before. It adds an entry
- * to the history even if that number is 0. Codes: NO_CHANNEL, NO_MEMORY. */
+/* Allows all submitted transfers of a channel to start, one after another, and writes how many were not allowed before.
+ * It adds an entry to the history even if that number is 0. Codes: NO_CHANNEL, NO_MEMORY. */
 int32_t dma330_issue(dma330_controller *controller, uint8_t channel, uint32_t *count) DMA330_NO_NULLS;
 
-/* Pauses a channel, paused or not: its steps do nothing until dma330_resume or dma330_terminate. Codes: NO_CHANNEL. */
+/* Pauses a channel: its steps do nothing until dma330_resume or dma330_terminate. It may be paused already. Codes:
+ * NO_CHANNEL. */
 int32_t dma330_pause(dma330_controller *controller, uint8_t channel) DMA330_NO_NULLS;
 
 /* Ends the pause of a channel. Codes: NO_CHANNEL. */
@@ -622,19 +653,22 @@ int32_t dma330_resume(dma330_controller *controller, uint8_t channel) DMA330_NO_
  * NO_CHANNEL, NO_MEMORY. */
 int32_t dma330_terminate(dma330_controller *controller, uint8_t channel, uint32_t *count) DMA330_NO_NULLS;
 
-/* Steps a channel up to `most` times, or until a step neither starts nor moves. Codes, of the first step: NO_CHANNEL,
- * STEPS_SPENT, NO_MEMORY. If a later step is refused, the call returns DMA330_OK with a report of the steps before it,
- * and the next call tries that step again. With `most` 0 the only code is NOT_OPEN. */
+/* Lets a channel take up to `most` steps, and reports what the last one did. It ends early after a step that is neither
+ * DMA330_STARTED nor DMA330_MOVED. If a later step than the first is refused, the call returns DMA330_OK with a report
+ * of the steps before it, and the next call tries that step again. Codes, of the first step: NO_CHANNEL, STEPS_SPENT,
+ * NO_MEMORY. With `most` 0 the only code is NOT_OPEN. */
 int32_t dma330_step(dma330_controller *controller, uint8_t channel, uint32_t most,
                     dma330_report *report) DMA330_NO_NULLS;
 
-/* ---- readings ---- */
+/* ---- readings ----
+ *
+ * What a controller says of itself. None of these calls changes it, and only a checkpoint makes it forget a result. */
 
 /* Returns the state of a cookie, an enum dma330_state, or NOT_OPEN. A cookie that was never given, and any cookie of a
  * channel that doesn't exist, is DMA330_UNKNOWN. */
 int32_t dma330_status(dma330_controller *controller, uint8_t channel, uint32_t cookie) DMA330_NO_NULLS;
 
-/* Writes how a cookie finished. Codes: NO_RESULT. */
+/* Writes how the transfer with a cookie finished, and its residue. Codes: NO_RESULT. */
 int32_t dma330_result(dma330_controller *controller, uint8_t channel, uint32_t cookie,
                       dma330_outcome *outcome) DMA330_NO_NULLS;
 
@@ -644,12 +678,12 @@ int32_t dma330_running(dma330_controller *controller, uint8_t channel, dma330_ru
 /* Writes the number of unfinished cookies of a channel, 0 for a channel that doesn't exist. */
 int32_t dma330_unfinished(dma330_controller *controller, uint8_t channel, uint32_t *count) DMA330_NO_NULLS;
 
-/* Writes how many cookies of a channel, from cookie 1 on, have results that checkpoints have forgotten; 0 for a
- * channel that doesn't exist. */
+/* Writes how many cookies of a channel, from cookie 1 on, have results that checkpoints have forgotten; 0 for a channel
+ * that doesn't exist. */
 int32_t dma330_forgotten(dma330_controller *controller, uint8_t channel, uint32_t *count) DMA330_NO_NULLS;
 
-/* Writes the number of steps that moved or finished, on all channels since the controller was opened. Steps that
- * started a transfer or did nothing count in `taken` alone. */
+/* Writes the number of steps that moved or finished a transfer, on all channels since the controller was opened. Steps
+ * that started a transfer or did nothing count in `taken` alone. */
 int32_t dma330_steps(dma330_controller *controller, uint64_t *steps) DMA330_NO_NULLS;
 
 /* Writes the number of entries of the history: one for each accepted write, read, submit, issue, terminate, raise and
@@ -663,38 +697,41 @@ int32_t dma330_history_bytes(dma330_controller *controller, uint64_t *count) DMA
 /* Writes the number of running transfers of all channels. */
 int32_t dma330_running_count(dma330_controller *controller, uint32_t *count) DMA330_NO_NULLS;
 
-/* ---- injected errors, events, the history ---- */
+/* ---- injected errors, events, the history ----
+ *
+ * The history is a list of what happened, which grows as long as the controller is used; what is proved of replies
+ * refers to it. A program that runs for days empties it by dma330_checkpoint. */
 
-/* Injects an error: bursts that read a range, or write it, by `access` (enum dma330_access), fail from then on. The
- * range may lie inside the memory or not. Codes: BAD_ACCESS, BAD_RANGE, NO_MEMORY. */
+/* Injects an error into a range: from now on bursts fail that read it, or that write it, by `access` (enum
+ * dma330_access). A burst is what one load or store moves. The range may lie inside the memory or not. Codes:
+ * BAD_ACCESS, BAD_RANGE, NO_MEMORY. */
 int32_t dma330_inject_error(dma330_controller *controller, uint32_t access, dma330_segment range) DMA330_NO_NULLS;
 
 /* Removes all injected errors. Codes: NO_MEMORY. */
 int32_t dma330_uninject_errors(dma330_controller *controller) DMA330_NO_NULLS;
 
-/* Sets the flag of an event of the controller, which stays set until a transfer that waits for it passes and clears
- * it. To clear one, run a fill of one byte that waits for it; if a step reports DMA330_WAITING, the flag was clear,
- * and a terminate removes the fill. Codes: BAD_EVENT, NO_MEMORY. */
+/* Sets the flag of an event of the controller, which stays set until a transfer that waits for it passes and clears it.
+ * To clear one, run a fill of one byte that waits for it; if a step reports DMA330_WAITING, the flag was clear, and a
+ * terminate removes the fill. Codes: BAD_EVENT, NO_MEMORY. */
 int32_t dma330_raise(dma330_controller *controller, uint8_t event) DMA330_NO_NULLS;
 
-/* Drops the history and the results of finished transfers, and frees their memory; nothing else changes. Transfers that
+/* Drops the history and the results of finished transfers, and frees their memory. Nothing else changes: transfers that
  * haven't started stay. It first copies the chunks of pages in use: the controller then holds them twice, and three
- * times during a later checkpoint. RUNNING also names a transfer that is paused or waits for an event: resume the
- * channel, raise the event or terminate. If channels are always busy, don't step idle ones (dma330_running returns
- * NOT_RUNNING) until the others finish. Codes: RUNNING, NO_MEMORY. */
+ * times during a later checkpoint. Codes: RUNNING if a transfer runs (`*conflict` then names it), NO_MEMORY. A transfer
+ * runs also while it is paused or waits for an event: resume the channel, raise the event or terminate. If channels are
+ * always busy, don't step idle ones (dma330_running returns NOT_RUNNING) until the others finish. */
 int32_t dma330_checkpoint(dma330_controller *controller, dma330_conflict *conflict) DMA330_NO_NULLS;
 
 /* ---- a channel over the caller's memory ----
  *
- * A channel needs no controller. Its program reads and writes the caller's memory in place, which is lent for the time
- * of a call as regions: an array that rises by address, in which no `bytes` is null and no two overlap (RAM that the
- * guest sees at two addresses is lent at one). Between calls memory and flags are the caller's to read and to write.
- * Several channels may step in turn over the same memory and flags, each call over the regions that it is lent. Each
- * call but open and close fails with NOT_OPEN if the channel isn't open; a call that fails changes nothing. An open
+ * A channel needs no controller. Its program reads and writes your memory in place. You lend this memory for the time
+ * of a call, as regions: an array that rises by address, in which no `bytes` is null and no two overlap (lend RAM that
+ * the guest sees at two addresses at one of them). Between calls memory and flags are yours to read and to write.
+ * Several channels may step in turn over the same memory and flags, each call over the regions that it is lent. An open
  * channel has room for the longest program, so load_program, load_from and restore allocate nothing.
  *
- * This is proved for a transfer that load_copy or load_fill loads, or load_from from memory that begins with its
- * program:
+ * This is proved for a transfer that load_copy or load_fill loads, or that load_program or load_from loads from bytes
+ * that begin with its program:
  * - Until its program ends, `report->written` has only destinations of the transfer, whatever others write.
  * - Suppose that since the load each call on the channel was lent regions with the transfer's ranges, none of its
  *   destinations read-only, and nobody else wrote there. Then the first `stored` bytes of the destinations, as
@@ -712,45 +749,54 @@ int32_t dma330_channel_open(dma330_channel *channel) DMA330_NO_NULLS;
 /* Frees what an open channel holds; it may be opened again. Does nothing if it isn't open. */
 void dma330_channel_close(dma330_channel *channel) DMA330_NO_NULLS;
 
-/* Loads the program of a copy in place of the one before, sets registers and counts to 0, and empties the buffer.
- * Codes: those of dma330_submit up to the first NO_MEMORY. */
+/* Loads the program of a copy into a channel, in place of the one before. Registers and counts become 0, and the buffer
+ * is empty. The lists, `wait` and `signal` are as for dma330_submit. Codes: those of dma330_submit up to the first
+ * NO_MEMORY. */
 int32_t dma330_channel_load_copy(dma330_channel *channel, const dma330_segment *src, size_t src_count,
                                  const dma330_segment *dst, size_t dst_count, int32_t wait,
                                  int32_t signal) DMA330_NO_NULLS;
 
-/* Loads the program of a fill in the same way, with the same codes except TOTALS_DIFFER. */
+/* Loads the program of a fill into a channel, as dma330_channel_load_copy loads that of a copy. Codes: the same except
+ * TOTALS_DIFFER. */
 int32_t dma330_channel_load_fill(dma330_channel *channel, uint32_t src, const dma330_segment *dst, size_t dst_count,
                                  int32_t wait, int32_t signal) DMA330_NO_NULLS;
 
-/* Loads a copy of a program's bytes in the same way. Codes: PROGRAM_TOO_LONG. */
+/* Loads a program from its bytes into a channel, which keeps a copy of them. The rest is as for
+ * dma330_channel_load_copy. Codes: PROGRAM_TOO_LONG. */
 int32_t dma330_channel_load_program(dma330_channel *channel, const uint8_t *program, size_t len) DMA330_NO_NULLS;
 
-/* Loads the program that begins at `addr` of the memory in the same way: the bytes from there up to the first address
- * that no region has, 8192 at most, so a program may cross from one region into one that touches it. If no region has
- * `addr`, there are no bytes, and the first step fails with DMA330_INSTR_FETCH_ERR. A call that fails keeps the program
- * before. Codes: BAD_REGIONS. */
+/* Loads a program from the regions into a channel, where it begins at address `addr`. The rest is as for
+ * dma330_channel_load_copy. The program has the bytes from there up to the first address that no region has, 8192 at
+ * most, so a program may cross from one region into one that touches it. If no region has `addr`, there are no bytes,
+ * and the first step fails with DMA330_INSTR_FETCH_ERR. Codes: BAD_REGIONS. */
 int32_t dma330_channel_load_from(dma330_channel *channel, const dma330_region *regions, size_t region_count,
                                  uint32_t addr) DMA330_NO_NULLS;
 
-/* Takes at most `most` steps over the regions and the flags of events 0 to 31, which are the bits of `*flags`. It ends
- * after a step that doesn't move or that sets a flag, so that the caller can raise an interrupt. It also ends before a
- * store that neither overlaps nor touches the range written so far, and before one with which the range would have all
- * 2^32 addresses. The report then says MOVED, and the next call begins with that store. Loads outside the regions fail
- * with DMA330_DATA_READ_ERR, stores outside them or to a read-only region with DMA330_DATA_WRITE_ERR. The array of
- * regions isn't written, only their bytes. A burst may cross from one region into one that touches it. After a burst
- * to address 4294967295 SAR or DAR is 0; a burst that goes beyond it fails. The library keeps no fault: the next step
- * tries the instruction again, so a model stops stepping a channel that failed. Codes: BAD_REGIONS, NO_PROGRAM. */
+/* Takes at most `most` steps over the regions and the flags of events 0 to 31, which are the bits of `*flags`, and
+ * reports what they did. The call ends early in four cases:
+ * - the program ends, waits or fails;
+ * - it has executed a DMASEV, so that you can raise an interrupt;
+ * - its next store neither overlaps nor touches the range written so far, since a call reports one range without gaps;
+ * - its next store would make this range 2^32 bytes long, which `written.len` can't hold.
+ *
+ * In the last two cases the report says MOVED, and the next call begins with that store.
+ *
+ * Loads outside the regions fail with DMA330_DATA_READ_ERR, stores outside them or to a read-only region with
+ * DMA330_DATA_WRITE_ERR. A burst may cross from one region into one that touches it. After a burst to address
+ * 4294967295 SAR or DAR is 0; a burst that goes beyond it fails. The array of regions isn't written, only their bytes.
+ * A channel that has failed isn't stopped: the next step tries the instruction again, so stop stepping it. Codes:
+ * BAD_REGIONS, NO_PROGRAM. */
 int32_t dma330_channel_step(dma330_channel *channel, const dma330_region *regions, size_t region_count, uint32_t *flags,
                             uint32_t most, dma330_channel_report *report) DMA330_NO_NULLS;
 
-/* Drops the program. Registers and counts stay. */
+/* Drops the program of a channel. Registers and counts stay. */
 int32_t dma330_channel_stop(dma330_channel *channel) DMA330_NO_NULLS;
 
-/* Writes the registers and counts. */
+/* Writes the registers and counts of a channel. */
 int32_t dma330_channel_registers(dma330_channel *channel, dma330_registers *registers) DMA330_NO_NULLS;
 
-/* Injects an error: loads or stores of this channel in a range, by `access` (enum dma330_access), fail from then on.
- * The range may lie inside the memory or not. Codes: BAD_ACCESS, BAD_RANGE, NO_MEMORY. */
+/* Injects an error into a range: from now on loads or stores of this channel fail there, by `access` (enum
+ * dma330_access). The range may lie inside the regions or not. Codes: BAD_ACCESS, BAD_RANGE, NO_MEMORY. */
 int32_t dma330_channel_inject_error(dma330_channel *channel, uint32_t access, dma330_segment range) DMA330_NO_NULLS;
 
 /* Removes all injected errors of this channel. */
@@ -771,19 +817,23 @@ int32_t dma330_channel_uninject_errors(dma330_channel *channel) DMA330_NO_NULLS;
 int32_t dma330_channel_save(dma330_channel *channel, uint8_t *out, size_t room, size_t *len) DMA330_NO_NULLS;
 
 /* Makes the channel the one that was saved. A save holds no injected errors; those of this channel stay. Accepts bytes
- * exactly if they have the layout above, with these values, with a CCR that DMAMOV accepts, an offset in the program
- * or at its end (any number if none is loaded), at most 256 bytes stored for each instruction, and the right lengths
- * and checksum. It doesn't test whether a program that is marked as compiled is one. Codes: BAD_SAVE. */
+ * exactly if they have the layout above, with these values, with a CCR that DMAMOV accepts, an offset in the program or
+ * at its end (any number if none is loaded), at most 256 bytes stored for each instruction, and the right lengths and
+ * checksum. It doesn't test whether a program that is marked as compiled is one. Codes: BAD_SAVE. */
 int32_t dma330_channel_restore(dma330_channel *channel, const uint8_t *save, size_t len) DMA330_NO_NULLS;
 
 /* ---- a device over the caller's memory ----
  *
- * The registers of a DMA-330 as a guest's driver sees them (Technical Reference Manual, ARM DDI 0424). Its channels
- * execute the guest's programs in the caller's memory, which is lent as for a channel. An emulator forwards the
- * guest's accesses to read and write, lets channels take turns by step while can_step writes 1, and sets its interrupt
- * lines from lines after each write, reset and restore, and after each turn that reports lines_changed. docs/CHIP.md
- * lists what differs from the chip. Only open and the calls that explain allocate. Each call but open and close fails
- * with NOT_OPEN if the device isn't open; a call that fails changes nothing, except a restore that returns BAD_SAVE. */
+ * A device has the registers of a DMA-330, as a guest's driver sees them (Technical Reference Manual, ARM DDI 0424).
+ * Its channels execute the guest's programs in your memory, which you lend as for a channel. An emulator does this:
+ * - It forwards the guest's accesses of registers, by dma330_device_read and dma330_device_write.
+ * - It lets each channel take turns, by dma330_device_step, while the member `can_step` of the last turn is 1, or
+ *   dma330_device_can_step writes 1.
+ * - It sets its interrupt lines to what dma330_device_lines writes, after each write, reset and restore, and after each
+ *   turn that reports `lines_changed`.
+ *
+ * docs/DEVICES.md has it as code, and docs/CHIP.md lists what differs from the chip. Only dma330_device_open and
+ * dma330_device_explain allocate. */
 
 /* Opens a device in its state after a reset. Codes: ALREADY_OPEN, BAD_CONFIG, NO_MEMORY. */
 int32_t dma330_device_open(dma330_device *device, const dma330_device_config *config) DMA330_NO_NULLS;
@@ -795,63 +845,72 @@ void dma330_device_close(dma330_device *device) DMA330_NO_NULLS;
 int32_t dma330_device_reset(dma330_device *device) DMA330_NO_NULLS;
 
 /* Reads a register for the guest, 32 bits wide, by its offset, from 0 to 4095. Any other offset, and one that has no
- * register, reads as 0. No read changes the device. */
+ * register, reads as 0. No read changes the device. docs/DEVICES.md lists the registers. */
 int32_t dma330_device_read(dma330_device *device, uint32_t offset, uint32_t *value) DMA330_NO_NULLS;
 
-/* Writes a register for the guest. A write to an offset without a register that can be written is ignored. A DMAGO
- * reads its program from the regions, as dma330_channel_load_from does. Codes: BAD_REGIONS, which only a write to
- * DBGCMD (offset 0xD04) tests. */
+/* Writes a register for the guest. A write to an offset without a register that can be written is ignored. A write of 0
+ * to DBGCMD (offset 0xD04) executes the instruction in DBGINST0 and DBGINST1. If that is a DMAGO, it reads the
+ * channel's program from the regions, as dma330_channel_load_from does; no other write reads them. No write changes a
+ * byte of them. Codes: BAD_REGIONS, which only a write to DBGCMD tests. */
 int32_t dma330_device_write(dma330_device *device, uint32_t offset, uint32_t value, const dma330_region *regions,
                             size_t region_count) DMA330_NO_NULLS;
 
-/* Takes a turn of a channel: at most `most` steps. The turn ends after a step that ends, waits, fails or executes a
- * DMASEV. It also ends before a store that neither overlaps nor touches the range written so far, and before one with
- * which the range would have all 2^32 addresses. After the DMASEV of an interrupt it takes one more step, mostly the
- * DMAEND, since a driver's handler expects its channel to be stopped; a store is left to the next turn, so that at the
- * interrupt no more is copied than before its DMASEV. Whatever the guest's program is, a step wrote each address in
- * `turn->written`, each lies in a region that isn't read-only, and no byte elsewhere has changed. Does nothing for a
- * channel that is stopped or faulting, or that the device doesn't have. Codes: BAD_REGIONS. */
+/* Lets a channel take a turn, which is at most `most` steps, and reports what they did. A channel that is stopped or
+ * faulting, or that the device doesn't have, does nothing. The turn ends early in four cases:
+ * - the program ends, waits or fails;
+ * - it has executed a DMASEV, so that you can set the interrupt lines;
+ * - its next store neither overlaps nor touches the range written so far, since a turn reports one range without gaps;
+ * - its next store would make this range 2^32 bytes long, which `written.len` can't hold.
+ *
+ * After the DMASEV of an interrupt it takes one more step, mostly the DMAEND, since a driver's handler expects its
+ * channel to be stopped. If this step would be a store, it is left to the next turn, so that at the interrupt no more
+ * is copied than before its DMASEV. Whatever the guest's program is, a step wrote each address in `turn->written`, each
+ * lies in a region that isn't read-only, and no byte elsewhere has changed. Codes: BAD_REGIONS. */
 int32_t dma330_device_step(dma330_device *device, uint8_t channel, uint32_t most, const dma330_region *regions,
                            size_t region_count, dma330_device_turn *turn) DMA330_NO_NULLS;
 
-/* Takes several turns of a channel, one for each row, where a loop copies the rows of a rectangle by pairs of DMALD
- * and DMAST with bursts of the same length, then DMAADDH SAR or not, then DMAADDH DAR, by multiples of the beats. All
- * rows lie after their sources, or all before them. Else it takes one turn, which may end early where rows begin: if
- * no row comes next, the call first looks for one in the next 300 instructions at most. The result is that of
- * `rows->count` calls of dma330_device_step with a `most` of `rows->steps`; `count` times `steps` is at most `most`.
- * Together they took `count` times `turn.taken` steps. Codes: BAD_REGIONS. */
+/* Lets a channel take several turns, one for each row, while it copies the rows of a rectangle. By dma330_device_step
+ * each row takes a call, since the rows have gaps between them. The rows are found in a loop that copies each by pairs
+ * of DMALD and DMAST with bursts of the same length, and then has DMAADDH SAR or not, and DMAADDH DAR, by multiples of
+ * the beats; all rows lie after their sources, or all before them. Elsewhere the call takes one turn, which may end
+ * early where rows begin: if no row comes next, the call first looks for one in the next 300 instructions at most. The
+ * result is that of `rows->count` calls of dma330_device_step with a `most` of `rows->steps`; `count` times `steps` is
+ * at most `most`. Together they took `count` times `turn.taken` steps. Codes: BAD_REGIONS. */
 int32_t dma330_device_step_rows(dma330_device *device, uint8_t channel, uint32_t most, const dma330_region *regions,
                                 size_t region_count, dma330_device_rows *rows) DMA330_NO_NULLS;
 
-/* Explains the program that a DMAGO loaded into a channel, as dma330_explain does on the device's bus: from its first
- * instruction on, wherever the channel is in it, but with the registers that the channel has now. A DMAGO keeps the
- * registers, so before the channel's first turn they are those with which the program begins. Later the answer is the
- * same if dma330_explain explains the program with no register known, since that holds for any registers. A channel
- * has a program from the DMAGO until the DMAEND or a DMAKILL, also while it waits or is faulting. After a restore
- * nothing is promised of the channel's turns, since a save may have any registers. The explanation doesn't depend on
- * the number of events: a device fails at an instruction with an event that it doesn't have. Codes: NO_CHANNEL,
- * NO_PROGRAM, NO_MEMORY, UNEXPLAINED, BUFFER_TOO_SMALL. */
+/* Explains the program that a DMAGO gave a channel, as dma330_explain does, on the device's bus and with the registers
+ * that the channel has. Ask right after the DMAGO, before the channel's first turn: a DMAGO keeps the registers, so
+ * these are then those with which the program begins. The call always explains the program from its first instruction
+ * on. So after a turn it still answers the same if dma330_explain explains the program with no register known; of any
+ * other program the answer may then be wrong. After a restore nothing is promised of the channel's turns, since a save
+ * may have any registers.
+ *
+ * A channel has a program from the DMAGO until the DMAEND or a DMAKILL, also while it waits or is faulting. The
+ * explanation doesn't depend on the number of events: a device fails at an instruction with an event that it doesn't
+ * have. Codes: NO_CHANNEL, NO_PROGRAM, NO_MEMORY, UNEXPLAINED, BUFFER_TOO_SMALL; for the last two the explanation is
+ * written, as by dma330_explain. */
 int32_t dma330_device_explain(dma330_device *device, uint8_t channel, uint32_t most, dma330_repeated *src,
                               size_t src_room, dma330_segment *dst, size_t dst_room, dma330_segment *zeros,
                               size_t zeros_room, dma330_event *events, size_t events_room,
                               dma330_explanation *explanation) DMA330_NO_NULLS;
 
-/* Writes the registers and counts of a channel, as dma330_channel_registers does. If the channel has failed, they are
- * those from before the instruction that failed, whatever the fault is. After each turn of a program that a DMAGO
- * started and dma330_device_explain explained before the first turn, `stored` bytes of its `dst` and `zeros` are done,
- * of each list the first ones, also if the channel then waits or is faulting, if nobody else writes what the program
- * reads or writes. Codes: NO_CHANNEL. */
+/* Writes the registers and counts of a device's channel. If the channel has failed, they are those from before the
+ * instruction that failed, whatever the fault is. `stored` says how far a program is that dma330_device_explain
+ * explained before its first turn: this many bytes of its `dst` and `zeros` together are done, of each list the first
+ * ones, also if the channel waits or is faulting, as long as nobody else writes what the program reads or writes.
+ * Codes: NO_CHANNEL. */
 int32_t dma330_device_registers(dma330_device *device, uint8_t channel, dma330_registers *registers) DMA330_NO_NULLS;
 
-/* Writes the lines irq[31:0], and 1 if the line irq_abort is high, else 0. A high line of irq stays high until the
- * guest clears its interrupt by INTCLR, a reset, or a restore of a device in which it is low. INTCLR clears what INTEN
- * makes an interrupt then, also an event that was set before INTEN did so. The line irq_abort is high until the guest
- * kills each faulting channel, and the manager if that is faulting. */
+/* Writes the interrupt lines: irq[31:0] as bits, and 1 if the line irq_abort is high, else 0. A high line of irq stays
+ * high until the guest clears its interrupt by INTCLR, a reset, or a restore of a device in which it is low. INTCLR
+ * clears what INTEN makes an interrupt at that time, also an event that was set before INTEN did so. The line irq_abort
+ * is high until the guest has killed each faulting channel, and the manager if that is faulting. */
 int32_t dma330_device_lines(dma330_device *device, uint32_t *irqs, uint32_t *irq_abort) DMA330_NO_NULLS;
 
-/* Writes 1 if a channel can step, else 0. A channel can step if it runs and doesn't wait; one that waits can if its
- * event is set and INTEN doesn't make it an interrupt. After a 0 nothing happens until the guest's next write of a
- * register, a reset or a restore: a turn changes nothing, and reports no byte and no line. */
+/* Writes 1 if any channel can step, else 0. A channel can step if it executes a program and doesn't wait; one that
+ * waits can if its event is set and INTEN doesn't make it an interrupt. After a 0 nothing happens until the guest's
+ * next write of a register, a reset or a restore: a turn changes nothing, and reports no byte and no line. */
 int32_t dma330_device_can_step(dma330_device *device, uint32_t *can_step) DMA330_NO_NULLS;
 
 /* Writes the whole device as bytes, and their number, at most DMA330_MAX_DEVICE_SAVE. Codes: BUFFER_TOO_SMALL. By
@@ -872,22 +931,24 @@ int32_t dma330_device_can_step(dma330_device *device, uint32_t *can_step) DMA330
 int32_t dma330_device_save(dma330_device *device, uint8_t *out, size_t room, size_t *len) DMA330_NO_NULLS;
 
 /* Makes the device the one that was saved. Refuses bytes that are the save of no device of this configuration, among
- * them each save in which one byte is changed. Codes: OTHER_DEVICE, if the first 7 bytes are those above and the next
- * 8 aren't this version with this configuration; BAD_SAVE, after which the device is in its state after a reset.
+ * them each save in which one byte is changed. Codes: OTHER_DEVICE, if the first 7 bytes are those of
+ * dma330_device_save and the next 8 aren't this version with this configuration: the device stays as it was. BAD_SAVE,
+ * if anything else is wrong: the device is then in its state after a reset.
  *
  * In each save events, interrupts and INTEN have bits only of the device's events. A stopped channel has no program;
  * one that executes or waits has one. One that waits is at CPC before a DMAWFE of an event of the device, and has
  * executed fewer than 4294967295 instructions. No beat in CCR is wider than the bus. */
 int32_t dma330_device_restore(dma330_device *device, const uint8_t *save, size_t len) DMA330_NO_NULLS;
 
-/* ---- without a controller ----
+/* ---- programs of channels ----
  *
- * Programs have the instructions DMAMOV, DMALD, DMAST, DMALP with DMALPEND, DMARMB, DMAWMB, DMANOP, DMASEV, DMAWFE and
- * DMAEND. On a device, and where `bus` is that of a device, they also have DMASTZ, DMAADDH, DMAADNH and the DMALPEND
- * of a DMALPFE, which have no text here (dma330_program.h has their bytes). All others, and the conditional forms,
- * fail with DMA330_UNDEF_INSTR. A text has one instruction a line, without a space before it, in capital letters and
- * digits; a line that begins with # and an empty line are skipped. A DMALPEND names the counter and how many bytes
- * before it the loop begins. This text copies 1024 bytes as 4 bursts of 16 beats of 16 bytes:
+ * These calls need nothing that is open. Programs have the instructions DMAMOV, DMALD, DMAST, DMALP with DMALPEND,
+ * DMARMB, DMAWMB, DMANOP, DMASEV, DMAWFE and DMAEND. On a device, and where `bus` is that of a device, they also have
+ * DMASTZ, DMAADDH, DMAADNH and the DMALPEND of a DMALPFE, which have no text here (dma330_program.h has their bytes).
+ * All others, and the conditional forms, fail with DMA330_UNDEF_INSTR. A text has one instruction a line, without a
+ * space before it, in capital letters and digits; a line that begins with # and an empty line are skipped. A DMALPEND
+ * names the counter and how many bytes before it the loop begins. This text copies 1024 bytes as 4 bursts of 16 beats
+ * of 16 bytes:
  *
  *     DMAMOV SAR 0x80001000
  *     DMAMOV DAR 0x80002000
@@ -904,50 +965,55 @@ int32_t dma330_device_restore(dma330_device *device, const uint8_t *save, size_t
 /* Writes DMA330_VERSION and a zero byte, and its length without that byte. Codes: BUFFER_TOO_SMALL. */
 int32_t dma330_version(char *out, size_t room, size_t *len) DMA330_NO_NULLS;
 
-/* Runs a program alone over the caller's memory, with all flags clear, for at most `limit` instructions, and writes
- * how it ended. The program may not lie inside the memory. Codes: SIZE_OUT_OF_RANGE, PROGRAM_TOO_LONG, NO_MEMORY. */
+/* Runs a program alone over your memory, which begins at address 0, with all flags clear, for at most `limit`
+ * instructions, and writes how it ended. The program may not lie inside the memory. Codes: SIZE_OUT_OF_RANGE,
+ * PROGRAM_TOO_LONG, NO_MEMORY. */
 int32_t dma330_run_program(const uint8_t *program, size_t len, uint8_t *memory, size_t size, uint32_t limit,
                            dma330_run_end *end) DMA330_NO_NULLS;
 
-/* Explains a program: writes which bytes it reads (`src`) and where it stores them (`dst`), which it sets to 0
- * (`zeros`, by DMASTZ), each list in the order of the run, the events that it waits for and signals, and the numbers
- * of all. Byte number p that it reads is byte number p that it stores; no byte is stored twice, set to 0 twice or
- * stored and set to 0, and none where one is read. `bus` is 0 for a channel of this library, or 32, 64 or 128 for one
- * of a device.
+/* Explains a program before it runs. Writes which bytes it reads (`src`) and where it stores them (`dst`), which it
+ * sets to 0 (`zeros`, by DMASTZ), each list in the order of the run, the events that it waits for and signals, and the
+ * numbers of all. Byte number p that it reads is byte number p that it stores; no byte is stored twice, set to 0 twice
+ * or stored and set to 0, and none where one is read. docs/EXPLANATIONS.md has an example.
  *
- * The program begins with the registers of `start` that are known. What is found holds whatever the others are: an
- * instruction that uses one of them before the program sets it is refused (causes UNSET_SAR to UNSET_LC1). The call
- * runs the program once, without a memory, for at most `most` instructions: their order and addresses are the same in
- * each memory. So a channel that runs the program does exactly this, if the regions have all these addresses, none
- * that it writes is read-only, no error is injected there, and nobody else writes there meanwhile. If UNEXPLAINED is
- * returned, the program does nothing of this kind in at most `most` instructions: the explanation has the cause, the
- * offset, and how many instructions come before it. For BUFFER_TOO_SMALL the explanation is that of DMA330_OK, so the
- * numbers are the room that is needed. Only DMA330_OK writes the lists, each from its first item on. Each call writes
- * the same items for a program; no two neighbours of a list could be one item.
+ * `bus` is 0 for a dma330_channel, or 32, 64 or 128 for a channel of a device with this bus. The program begins with
+ * the registers of `start` that are known. What is found holds whatever the others are: if an instruction uses one of
+ * them before the program sets it, the program is refused (causes UNSET_SAR to UNSET_LC1).
  *
- * `most` bounds what a program of somebody else can cost. The time is proportional to the executed instructions, and
- * at the end the ranges that are stored are sorted. The call allocates up to 24 bytes for each executed DMAWFE and
- * DMASEV, 12 for a DMALD and 8 for a DMAST or DMASTZ that doesn't continue the range before it, at the end 8 more for
- * each range that is stored, and up to three times that while a list grows; all is freed when it returns.
+ * The call runs the program once, without a memory, for at most `most` instructions: their order and addresses are the
+ * same in each memory. So a channel that runs the program does exactly this, if the regions have all these addresses,
+ * none that it writes is read-only, no error is injected there, and nobody else writes there meanwhile. If UNEXPLAINED
+ * is returned, the explanation has the cause, the offset, and how many instructions come before it. With a cause
+ * UNSET_SAR to UNSET_LC1 the program uses this register there; with any other it does nothing of this kind in at most
+ * `most` instructions. For BUFFER_TOO_SMALL the explanation is that of DMA330_OK, so the numbers are the room that is
+ * needed. Only DMA330_OK writes the lists, each from its first item on. Each call writes the same items for a program;
+ * no two neighbours of a list could be one item.
  *
- * Codes: BAD_CONFIG for another bus, for a number that `known` can't be, and for a known CCR that no channel on the
- * bus has; PROGRAM_TOO_LONG, NO_MEMORY, UNEXPLAINED, BUFFER_TOO_SMALL. */
+ * `most` bounds what a program of somebody else can cost. The time is proportional to the executed instructions, and at
+ * the end the ranges that are stored are sorted. The call allocates up to 24 bytes for each executed DMAWFE and DMASEV,
+ * 12 for a DMALD and 8 for a DMAST or DMASTZ that doesn't continue the range before it, at the end 8 more for each
+ * range that is stored, and up to three times that while a list grows; all is freed when it returns.
+ *
+ * Codes: BAD_CONFIG for another bus, for a number that `known` can't be, and for a known CCR that no channel on the bus
+ * has; PROGRAM_TOO_LONG, NO_MEMORY, UNEXPLAINED, BUFFER_TOO_SMALL. */
 int32_t dma330_explain(const uint8_t *program, size_t len, uint32_t bus, const dma330_start *start, uint32_t most,
                        dma330_repeated *src, size_t src_room, dma330_segment *dst, size_t dst_room,
                        dma330_segment *zeros, size_t zeros_room, dma330_event *events, size_t events_room,
                        dma330_explanation *explanation) DMA330_NO_NULLS;
 
-/* Writes the program of a copy, the one that dma330_channel_load_copy loads if `bus` is 0; else one for a device with
- * a bus of 32, 64 or 128 bits, which never moves a beat that is wider. DMA330_MAX_PROGRAM bytes are room for each
- * program. Codes: BAD_CONFIG for another bus, those of dma330_submit up to the first NO_MEMORY, BUFFER_TOO_SMALL. */
+/* Writes the program of a copy, for a bus. If `bus` is 0, it is the one that dma330_channel_load_copy loads; if it is
+ * 32, 64 or 128, one for a device with a bus of so many bits, which never moves a beat that is wider. The lists, `wait`
+ * and `signal` are as for dma330_submit. DMA330_MAX_PROGRAM bytes are room for each program. Codes: BAD_CONFIG for
+ * another bus, those of dma330_submit up to the first NO_MEMORY, BUFFER_TOO_SMALL. */
 int32_t dma330_plan(const dma330_segment *src, size_t src_count, const dma330_segment *dst, size_t dst_count,
                     int32_t wait, int32_t signal, uint32_t bus, uint8_t *out, size_t room, size_t *len) DMA330_NO_NULLS;
 
-/* Writes the program of a fill in the same way, with the same codes except TOTALS_DIFFER. */
+/* Writes the program of a fill, for a bus, as dma330_plan writes that of a copy. Codes: the same except
+ * TOTALS_DIFFER. */
 int32_t dma330_plan_fill(uint32_t src, const dma330_segment *dst, size_t dst_count, int32_t wait, int32_t signal,
                          uint32_t bus, uint8_t *out, size_t room, size_t *len) DMA330_NO_NULLS;
 
-/* Assembles a text, and writes the program's bytes and their number. Codes for a faulty line, whose number from 1 is
+/* Assembles a text, and writes the program's bytes and their number. Codes for a faulty line, whose number from 1 on is
  * then in `*place`: BAD_MNEMONIC, BAD_OPERAND, NUMBER_OUT_OF_RANGE, and PROGRAM_TOO_LONG if the line goes past 8192
  * bytes. Other codes: NO_MEMORY, BUFFER_TOO_SMALL. */
 int32_t dma330_assemble(const char *text, size_t text_len, uint8_t *out, size_t room, size_t *len,

@@ -43,10 +43,10 @@
 #define DMA330_DMAWFE(event) 0x36, ((unsigned char)((event) << 3))
 #define DMA330_DMAWFE_INVALID(event) 0x36, ((unsigned char)((event) << 3 | 2))
 
-/* A device's instructions, which a dma330_controller and a dma330_channel don't have. The first stores a burst of zeros at DAR. The
- * next two add a number, 0 to 65,535, to an address. The two after them add a number with ones above its 16 bits, so that
- * 0xFFF0 subtracts 16. The last repeats for ever the `length` bytes before it, 0 to 255: the manual's DMALPFE, which has no
- * bytes, is at their start. Its first byte has the bit lc, which the manual sets for such a loop. */
+/* Instructions that only a device has, not a dma330_controller or a dma330_channel. DMASTZ stores a burst of zeros at
+ * DAR. DMAADDH adds a number, 0 to 65,535, to an address. DMAADNH adds a number with ones above its 16 bits, so that
+ * 0xFFF0 subtracts 16. The last one repeats for ever the `length` bytes before it, 0 to 255: the manual's DMALPFE,
+ * which has no bytes, is at their start. Its first byte has the bit lc, which the manual sets for such a loop. */
 #define DMA330_DMASTZ 0x0C
 #define DMA330_DMAADDH_SAR(number) 0x54, DMA330_BYTE(number, 0), DMA330_BYTE(number, 1)
 #define DMA330_DMAADDH_DAR(number) 0x56, DMA330_BYTE(number, 0), DMA330_BYTE(number, 1)

@@ -17,6 +17,8 @@ function text_of(comment, count, lines, number, line, text) {
             line = ".br\n" escaped(line)
         else if (sub(/^- /, "", line))
             line = ".IP \\(bu 2\n" escaped(line)
+        else if (match(line, /^[0-9]+\. /))
+            line = ".IP " substr(line, 1, RLENGTH - 1) " 3\n" escaped(substr(line, RLENGTH + 1))
         else {
             sub(/^ +/, "", line)
             line = escaped(line)
