@@ -623,11 +623,11 @@ int32_t dma330_read(dma330_controller *controller, uint32_t addr, uint8_t *out, 
 
 /* Queues a copy on a channel, and writes its cookie, which is its number on the channel, 1 for the first. The bytes of
  * the source list go to the places of the destination list, in their order. It starts after dma330_issue, and once no
- * running transfer conflicts with it. Then it waits for the event `wait`, copies, and signals the event `signal` once
- * all is stored; one that fails or is aborted doesn't signal. A halted channel accepts it, and dma330_terminate aborts
- * it with the rest. Each rule is tested over both lists before the next. Codes: EMPTY_LIST, TOO_MANY_SEGMENTS,
- * EMPTY_SEGMENT, SEGMENT_WRAPS, TOTALS_DIFFER, TOO_LONG, DESTINATIONS_MEET, SOURCE_MEETS_DESTINATION, BAD_EVENT,
- * NO_MEMORY, NO_CHANNEL, OUT_OF_MEMORY_RANGE, COOKIES_SPENT, NO_MEMORY. */
+ * running transfer conflicts with it. Then it waits for the event `wait`, if there is one, copies, and signals the
+ * event `signal`, if there is one, once all is stored. A transfer that fails or is aborted doesn't signal. A halted
+ * channel accepts it, and dma330_terminate aborts it with the rest. Each rule is tested over both lists before the
+ * next. Codes: EMPTY_LIST, TOO_MANY_SEGMENTS, EMPTY_SEGMENT, SEGMENT_WRAPS, TOTALS_DIFFER, TOO_LONG, DESTINATIONS_MEET,
+ * SOURCE_MEETS_DESTINATION, BAD_EVENT, NO_MEMORY, NO_CHANNEL, OUT_OF_MEMORY_RANGE, COOKIES_SPENT, NO_MEMORY. */
 int32_t dma330_submit(dma330_controller *controller, uint8_t channel, const dma330_segment *src, size_t src_count,
                       const dma330_segment *dst, size_t dst_count, int32_t wait, int32_t signal,
                       uint32_t *cookie) DMA330_NO_NULLS;
