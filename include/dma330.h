@@ -225,8 +225,8 @@ typedef struct dma330_run_end {
 } dma330_run_end;
 
 /* The addresses from addr up to, and not including, addr + len, all of which are read `times` times, one round after
- * another. `times` is above 1 where a fixed address is read repeatedly, as by a fill, or a range is read again right
- * after itself. addr + len may be 2^32, so add in 64 bits. */
+ * another. `times` is above 1 where a fixed address is read repeatedly, for example by a fill, or a range is read again
+ * right after itself. addr + len may be 2^32, so add in 64 bits. */
 typedef struct dma330_repeated {
     uint32_t addr;
     uint32_t len;
@@ -332,7 +332,9 @@ enum dma330_event_kind { DMA330_WAITS = 0, DMA330_SIGNALS = 1 };
 
 /* Why a call doesn't explain a program; docs/EXPLANATIONS.md has an example and a remedy for each cause. Causes 1 to 5
  * have the numbers of enum dma330_fault: in every memory the instruction fails so. The numbers 6 and 7 are missing
- * here, since only a memory makes an instruction fail so. From 9 on, a store may be a DMASTZ. */
+ * here, since only a memory makes an instruction fail so. From 9 on, a store may be a DMASTZ. While bytes are in the
+ * buffer, a DMAMOV DAR uses the old DAR: a device compares it with the new one, as a chip does, to find whether it
+ * drops the bytes. With `bus` 0 nothing is dropped or compared. */
 enum dma330_cause {
     DMA330_CAUSE_NONE = 0,
     DMA330_CAUSE_UNDEF_INSTR = 1,
@@ -343,19 +345,18 @@ enum dma330_cause {
     DMA330_CAUSE_LOADS_PAST = 8,          /* a load goes beyond address 4294967295 */
     DMA330_CAUSE_STORES_PAST = 9,         /* a store does */
     DMA330_CAUSE_STORES_FIXED = 10,       /* a store's address doesn't rise */
-    DMA330_CAUSE_DROPS_BYTES = 11,        /* a DMAMOV, DMAADDH or DMAADNH at which a device, as a chip, drops bytes that
-                                           * are loaded and not stored: DAR moves to other byte lanes of the bus, begins
-                                           * or ceases to rise, or doesn't rise and the beats get another size. Not with
-                                           * `bus` 0 */
+    DMA330_CAUSE_DROPS_BYTES = 11,        /* a DMAMOV, DMAADDH or DMAADNH at which a device drops bytes that are loaded
+                                           * and not stored, as a chip does: DAR moves to other byte lanes of the bus,
+                                           * begins or ceases to rise, or doesn't rise and the beats get another size */
     DMA330_CAUSE_BYTES_LEFT = 12,         /* at DMAEND loaded bytes aren't stored */
     DMA330_CAUSE_STORES_TWICE = 13,       /* at DMAEND a byte was stored twice */
     DMA330_CAUSE_STORES_SOURCE = 14,      /* at DMAEND a byte was stored at an address that was read */
     DMA330_CAUSE_NO_END = 15,             /* no DMAEND is among the first `most` instructions */
-    DMA330_CAUSE_UNSET_SAR = 16,          /* the instruction uses a register that isn't known, and that the program */
-    DMA330_CAUSE_UNSET_DAR = 17,          /* hasn't set. A DMAMOV DAR, DMAADDH or DMAADNH uses the old DAR, too, */
-    DMA330_CAUSE_UNSET_CCR = 18,          /* while bytes are in the buffer: a device, as a chip, compares it with the */
-    DMA330_CAUSE_UNSET_LC0 = 19,          /* new one, to find whether it drops the bytes. Not with `bus` 0 */
-    DMA330_CAUSE_UNSET_LC1 = 20
+    DMA330_CAUSE_UNSET_SAR = 16,          /* an instruction uses SAR, which is neither known nor set by the program */
+    DMA330_CAUSE_UNSET_DAR = 17,          /* an instruction uses DAR, which is neither known nor set by the program */
+    DMA330_CAUSE_UNSET_CCR = 18,          /* an instruction uses CCR, which is neither known nor set by the program */
+    DMA330_CAUSE_UNSET_LC0 = 19,          /* an instruction uses LC0, which is neither known nor set by the program */
+    DMA330_CAUSE_UNSET_LC1 = 20           /* an instruction uses LC1, which is neither known nor set by the program */
 };
 
 /* The status of a channel, which are bits 3:0 of CSR (manual, channel status registers). A device of this library has
@@ -572,7 +573,8 @@ DMA330_INLINE const char *dma330_ftr_name(uint32_t bit)
     }
 }
 
-/* Returns the name of bit number `bit` of the manager's FTRD in the same way. */
+/* Returns the name of bit number `bit` of the manager's FTRD, for example "DMAGO_ERR" for DMA330_FTRD_DMAGO_ERR, 4; "?"
+ * if it is reserved. */
 DMA330_INLINE const char *dma330_ftrd_name(uint32_t bit)
 {
     switch (bit) {
