@@ -1,9 +1,9 @@
 -- What `explain` prints (profile).
-use Rattle.std.specs.Prelude.{◌≡◌, ℕ, ◌-◌, ◌==◌, ◌++◌, ◌<◌, ◌⊎◌, ◌&&◌, Bool, not, true, false, List, [], length, flat_map, slice_get, if◌then◌else◌, codes, decimal}
+use Rattle.std.specs.Prelude.{◌≡◌, ℕ, ◌-◌, ◌==◌, ◌++◌, ◌<◌, ◌⊎◌, ◌&&◌, Bool, not, true, false, List, [], length, flat_map, slice_get, Option, None, if◌then◌else◌, codes, decimal}
 use Rattle.dma_mem.specs.declared.segment.Segment.{Segment}
 use Rattle.dma_insn.specs.AssemblyText.{most_program_bytes}
 use Rattle.dma_chan.specs.declared.exec.Registers.{Registers}
-use Rattle.dma_explain.specs.Explains.{bursts_in, next_in, traced}
+use Rattle.dma_explain.specs.{Explains.bursts_in, Explains.next_in, Explains.traced, Late.late_in}
 use Rattle.dma_explain.specs.Known.{FindsFrom, MayBegin, RefusesFrom}
 use Rattle.dma_explain.specs.{declared.explain.known.Given.Given, declared.explain.known.Known.Known}
 use Rattle.dma_text.specs.Digits.{hex_digits}
@@ -12,7 +12,7 @@ use Rattle.dma_explain.specs.{declared.explain.Happening.Happening, declared.exp
 use Rattle.dma_explain.specs.declared.explain.EventSync.TheVariants.{Waits, Signals}
 use Rattle.dma_explain.specs.{declared.explain.Unexplained.Unexplained}
 use Rattle.dma_trace.specs.Words.{bytes_text, cause_text, count_text, line_feed, long_text, range_text, refusal_text}
-use Rattle.dma_trace.specs.{Front.front_at, Touches.conflict_text, Touches.touches_in, Warnings.warnings_of, Warnings.warnings_text}
+use Rattle.dma_trace.specs.{Front.front_at, Touches.conflict_text, Touches.touches_in, Warnings.all_warned, Warnings.warnings_of}
 
 -- `  from 0x00002000 + 32 bytes, 64 times`
 abbrev pub source_line : Repeated → List ℕ
@@ -104,11 +104,20 @@ Prints given program most true printed = PrintsCopy given program most printed
 Prints given program most false printed =
     ((most_program_bytes < length program) × (printed ≡ long_text)) ⊎ PrintsCause given program most printed
 
+-- The offset of the first instruction of an explained program that moves the destination while bytes are in the buffer.
+abbrev pub IsLate : Given → List ℕ → ℕ → Bool → Option ℕ → Type 0
+IsLate given program most false late = late ≡ None
+IsLate given program most true late =
+    (x : Explained) × FindsFrom given program most x
+    × ((start : Registers) → MayBegin given start → late ≡ late_in start program (x.steps - 1))
+
 -- What is printed is appended to `out` if the program is explained, else to `err`. Then the warnings about the program
 -- are appended to `err`.
 pub record Appends (given : Given) (program : List ℕ) (most : ℕ) (copies : Bool)
     (out err new_out new_err : List ℕ) : Type 0 where
   pub printed : List ℕ
   pub prints : Prints given program most copies printed
+  pub late : Option ℕ
+  pub is_late : IsLate given program most copies late
   pub to_out : new_out ≡ out ++ (if copies then printed else [])
-  pub to_err : new_err ≡ err ++ (if copies then [] else printed) ++ warnings_text copies (warnings_of program)
+  pub to_err : new_err ≡ err ++ (if copies then [] else printed) ++ all_warned copies (warnings_of program) late

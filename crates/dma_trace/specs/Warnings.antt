@@ -92,3 +92,20 @@ abbrev pub warnings_text : Bool → List Warning → List ℕ
 warnings_text begins [] = []
 warnings_text true (w ∷ rest) = codes " " ++ warning_text w ++ flat_map further_line rest
 warnings_text false (w ∷ rest) = flat_map further_line (w ∷ rest)
+
+-- Prints that the instruction at this offset is the first that moves the destination while bytes are in the buffer.
+unfoldable pub move_text : ℕ → List ℕ
+move_text pc =
+    codes "offset " ++ offset_text pc ++ codes ": warning: DAR changes while the buffer holds bytes: a chip drops them " ++
+    codes "if the old and the new DAR differ in their byte lanes of the bus\n"
+
+-- Prints it behind other warnings, if there is such an instruction. It begins the message if there are none.
+abbrev pub late_text : List Warning → Option ℕ → List ℕ
+late_text warnings None = []
+late_text [] (Some pc) = codes " " ++ move_text pc
+late_text (w ∷ rest) (Some pc) = codes "  " ++ move_text pc
+
+-- Prints all warnings about a program that is explained or not, and of an explained one that warning too.
+abbrev pub all_warned : Bool → List Warning → Option ℕ → List ℕ
+all_warned true warnings late = warnings_text true warnings ++ late_text warnings late
+all_warned false warnings late = warnings_text false warnings

@@ -14,7 +14,7 @@ ghost use Rattle.dma_trace.specs.inner.Explaining.{Found};
 use crate::amounts::{Bytes, Instructions, Range};
 use crate::progress::report;
 use crate::touches::{Conflict, Touches};
-use crate::warnings::{push_warnings, warnings_of};
+use crate::warnings::{push_late, push_warnings, warnings_of};
 use crate::words::{Front, LongProgram, Place, Point, State, Why, first_byte};
 use dma_chan::exec::Registers;
 use dma_chan::next::Next;
@@ -396,6 +396,7 @@ fn explain_all<P: Progress>(
             }
             .push(out)?;
             push_warnings(true, &warnings, err)?;
+            push_late(&warnings, explained.late, err)?;
             Ok(true)
         }
         None => {
@@ -407,7 +408,9 @@ fn explain_all<P: Progress>(
 
 /// Explains a program that begins with these registers, executing at most `most` instructions: appends to `out` what it
 /// copies and sets to 0 for every memory and for every value of the registers that aren't known, and returns whether it
-/// is explained. If it isn't, appends to `err` why and where. Appends warnings about its loops to `err`.
+/// is explained. If it isn't, appends to `err` why and where. Appends warnings about its loops to `err`, and for a
+/// program that is explained about its first DMAMOV, DMAADDH or DMAADNH that moves the destination while bytes are in
+/// the buffer.
 ///
 /// If memory runs out, it fails and appends nothing.
 pub fn explain<P: Progress>(

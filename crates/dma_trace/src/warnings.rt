@@ -1,9 +1,9 @@
-//! Warnings about the loops of a program, by its text.
+//! Warnings about the loops of a program, by its text, and about a move of its destination.
 #![tactic(auto, using(dma_text::proofs::Begun::begun))]
 
 ghost use Rattle.std.specs.Prelude.{◌≡◌, ◌+◌, ◌++◌, ◌<◌, ◌≤◌, IfOk, OnOk, flat_map};
 ghost use Rattle.dma_text.specs.Text.{Begins};
-ghost use Rattle.dma_trace.specs.Warnings.{doubt_of, doubt_text, ends_text, further_line, loops_on, nest_after, unnested, warning_at, warning_text, warnings_of, warnings_text, with_loops};
+ghost use Rattle.dma_trace.specs.Warnings.{doubt_of, doubt_text, ends_text, further_line, late_text, loops_on, move_text, nest_after, unnested, warning_at, warning_text, warnings_of, warnings_text, with_loops};
 
 use crate::amounts::Offset;
 use dma_chan::program::MAX_PROGRAM_BYTES;
@@ -247,5 +247,41 @@ pub fn push_warnings(
             push_all_further(rest, out)
         }
         _ => push_all_further(warnings, out),
+    }
+}
+
+/// The first instruction that moves the destination while bytes are in the buffer, by its offset.
+#[derive(Drop)]
+struct LateMove(u32);
+
+impl Text for LateMove {
+    ghost text = { λ late. move_text late.0 };
+
+    #[tactic(auto, unfolding(crate::specs::Warnings::move_text))]
+    fn push(&self, out: &mut Vec<u8>) -> Result<(), AllocError> {
+        (
+            ("offset ", Offset(self.0)),
+            ": warning: DAR changes while the buffer holds bytes: a chip drops them ",
+            "if the old and the new DAR differ in their byte lanes of the bus\n",
+        )
+            .push(out)
+    }
+}
+
+/// Appends a warning about such an instruction, if there is one, behind these other warnings.
+pub fn push_late(
+    warnings: &[Warning],
+    late: Option<u32>,
+    out: &mut Vec<u8>,
+) -> Result<(), AllocError>
+    ensures ok { OnOk result (out.new.items ≡ out.old.items ++ late_text warnings.now late) }
+    ensures begins { Begins out.new.items out.old.items }
+{
+    let Some(pc) = late else {
+        return Ok(());
+    };
+    match warnings {
+        [] => (" ", LateMove(pc)).push(out),
+        [..] => ("  ", LateMove(pc)).push(out),
     }
 }

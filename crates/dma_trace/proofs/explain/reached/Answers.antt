@@ -24,9 +24,6 @@ unreachable-requires g c = grind (arith, next_here)
 pub run-requires : goal.run-requires
 run-requires g c = grind (arith, next_here, ap)
 
-pub unreachable-in-Err-requires : goal.unreachable-in-Err-requires
-unreachable-in-Err-requires g c = grind (arith, next_here, halts_alone)
-
 pub loop-done-preserved : goal.loop-done-preserved
 loop-done-preserved g c =
     let start = c.args.start in
