@@ -449,8 +449,8 @@ QEMU_BUILD_BUG_ON(DMA330_MAX_DEVICE_SAVE != 68204);
 
 static const VMStateDescription vmstate_pl330 = {
     .name = "dma330",
-    .version_id = 2,
-    .minimum_version_id = 2,
+    .version_id = 1,
+    .minimum_version_id = 1,
     .pre_save = pl330_pre_save,
     .post_load = pl330_post_load,
     .fields = (const VMStateField[]) {
