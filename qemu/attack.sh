@@ -34,13 +34,9 @@ guest() {
     name=$1 source=$here/guests/$2
     shift 2
     case $name in
-        exynos*) set -- "$@" -DEXYNOS=1 -Wl,--defsym,ram=0x40000000 ;;
-        *) set -- "$@" -DEXYNOS=0 -Wl,--defsym,ram=0 ;;
+        exynos*) build_bare "attack/$name.elf" 0x40100000 "$source" -DEXYNOS=1 "$@" ;;
+        *) build_bare "attack/$name.elf" 0x00100000 "$source" -DEXYNOS=0 "$@" ;;
     esac
-    arm-linux-gnueabihf-gcc -marm -mcpu=cortex-a9 -mfpu=vfpv3-d16 -O1 -ffreestanding -fno-pic -no-pie -static \
-        -nostdlib -nostartfiles -Wall -Wextra -Werror -Wno-array-bounds \
-        -Wl,-T,"$here/guests/guest.lds" -Wl,--build-id=none -Wl,--no-warn-rwx-segments "$@" \
-        -o "attack/$name.elf" "$source" -lgcc
 }
 
 # verdict STATUS CONSOLE: prints why a run failed; prints nothing if it passed

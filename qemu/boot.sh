@@ -1,23 +1,26 @@
 #!/bin/sh
 # Boots Linux in the two emulators that build.sh has built, and compares their PL330:
 #
-#     ./boot.sh [--migrate N] [--exynos] [--replay] [FOLDER]
+#     ./boot.sh [--migrate N] [--firmware] [--exynos] [--replay] [FOLDER]
 #
 # FOLDER is that of build.sh, the current one if none is given; its path has no spaces or colons. Linux is Debian's
 # linux-source-6.1 with its driver pl330 and its test dmatest; it is built once. The tests copy 1,600 times at random on
 # eight channels, and 64 times 1 MiB on one. With --migrate, a third machine is moved to a new process N times while
-# qemu-dma330 makes 4,000 N copies. With --exynos, the machine smdkc210, with two processors, makes 2,400 copies on 24
-# channels, and programs use two SPI buses whose requests the device doesn't serve. With --replay, a run with -icount is
-# recorded and replayed: the consoles must be the same. A machine is ended if its console is silent for a minute of its
-# processor time, or for ten minutes, and counts as a failure. The consoles are in FOLDER/*.log. The status is 0 only if
-# nothing failed on qemu-dma330; failures of qemu-stock are only reported.
+# qemu-dma330 makes 4,000 N copies. With --firmware, guests/firmware.c runs before Linux, and leaves event 0 of the
+# controller set. Then Linux copies 8 times on one channel, so that it clears the event, and 400 times on eight. With
+# --exynos, the machine smdkc210, with two processors, makes 2,400 copies on 24 channels, and programs use two SPI buses
+# whose requests the device doesn't serve. With --replay, a run with -icount is recorded and replayed: the consoles must
+# be the same. A machine is ended if its console is silent for a minute of its processor time, or for ten minutes, and
+# counts as a failure. The consoles are in FOLDER/*.log. The status is 0 only if nothing failed on qemu-dma330; failures
+# of qemu-stock are only reported.
 set -eu
 here=$(cd "$(dirname "$0")" && pwd)
 # shellcheck source=common.sh
 . "$here/common.sh"
 
-usage="usage: boot.sh [--migrate N] [--exynos] [--replay] [FOLDER]"
+usage="usage: boot.sh [--migrate N] [--firmware] [--exynos] [--replay] [FOLDER]"
 migrations=0
+firmware=
 exynos=
 replay=
 while [ $# -gt 0 ]; do
@@ -26,6 +29,7 @@ while [ $# -gt 0 ]; do
             migrations=${2:-none}
             [ $# -eq 1 ] || shift
             ;;
+        --firmware) firmware=1 ;;
         --exynos) exynos=1 ;;
         --replay) replay=1 ;;
         *) break ;;
@@ -94,8 +98,8 @@ count() {
     esac
 }
 
-# start EMULATOR NAME TESTS OPTION..: starts a machine, on the board in $board; its console is in NAME.log, its monitor
-# reads from descriptor 3
+# start EMULATOR NAME TESTS OPTION..: starts a machine, on the board in $board, with the kernel in $kernel; its console
+# is in NAME.log, its monitor reads from descriptor 3
 start() {
     emulator=$1 name=$2 tests=$3
     shift 3
@@ -111,7 +115,7 @@ start() {
     mkfifo monitor
     "./$emulator" -display none -no-reboot -monitor stdio \
         -chardev "file,id=console,path=$name.log,append=on" "$@" -serial chardev:console \
-        -kernel zImage -initrd root.cpio -append "console=$tty $tests" <monitor >>monitor.log 2>&1 &
+        -kernel "$kernel" -initrd root.cpio -append "console=$tty $tests" <monitor >>monitor.log 2>&1 &
     pid=$!
     exec 3>monitor
     size=0
@@ -205,6 +209,7 @@ trap 'for it in $pid $old; do kill "$it"; done' EXIT
 rm -f monitor.log
 failed=0
 board=zynq
+kernel=zImage
 for it in qemu-stock qemu-dma330; do
     boot "$it" "$it" "random=200 long=64"
 done
@@ -227,6 +232,25 @@ if [ "$migrations" -gt 0 ]; then
     check migrated $((4000 * migrations))
     echo "migrated: $moved of $migrations migrations"
     [ "$moved" -eq "$migrations" ] || failed=$((failed + 1))
+fi
+
+if [ -n "$firmware" ]; then
+    build_bare firmware.elf 0x00010000 "$here/guests/firmware.c" # where QEMU loads a kernel
+    arm-linux-gnueabihf-objcopy -O binary firmware.elf firmware
+    kernel=firmware
+    tests="first=8 random=50"
+    boot qemu-stock firmware-stock "$tests"
+    # (with step-ns, copies take so long that several channels run at once)
+    boot qemu-dma330 firmware-dma330 "$tests" -global pl330.step-ns=1000
+    kernel=zImage
+    compare firmware-stock firmware-dma330
+    for it in firmware-stock firmware-dma330; do
+        check "$it" 408
+        tr -d '\r' <"$it.log" | grep -qx 'firmware: leaves event 0 set' || {
+            echo "$it: the firmware doesn't leave event 0 set"
+            count "$it"
+        }
+    done
 fi
 
 if [ -n "$exynos" ]; then

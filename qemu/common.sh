@@ -37,3 +37,12 @@ enter() {
     done
     need "$(cut -d . -f 1,2 source/VERSION)"
 }
+
+# build_bare PROGRAM START SOURCE FLAG..: builds a program without an operating system, for RAM from address START on
+build_bare() {
+    program=$1 at=$2 source=$3
+    shift 3
+    arm-linux-gnueabihf-gcc -marm -mcpu=cortex-a9 -mfpu=vfpv3-d16 -O1 -ffreestanding -fno-pic -no-pie -static \
+        -nostdlib -nostartfiles -Wall -Wextra -Werror -Wno-array-bounds -Wl,-T,"${here:?}/guests/guest.lds" \
+        -Wl,--defsym,start="$at" -Wl,--build-id=none -Wl,--no-warn-rwx-segments "$@" -o "$program" "$source" -lgcc
+}

@@ -1,8 +1,9 @@
-/* The guest's only program: runs Linux's dmatest twice, prints how long it took, and ends the machine: switches it off
- * if the kernel's command line has off=1, else resets it. The command line has how many copies each test makes on a
- * channel: random=COPIES long=COPIES. While a test runs, it prints a line every five seconds, so that a silent console
- * means that the machine hangs. Then it uses the SPI buses that the machine has. All its lines go through the kernel's
- * log: a line that goes straight to the console could come between the parts of one of the kernel's. */
+/* The guest's only program: runs Linux's dmatest, prints how long it took, and ends the machine: switches it off if the
+ * kernel's command line has off=1, else resets it. The command line says which tests run, and how many copies each
+ * makes on a channel: first=COPIES random=COPIES long=COPIES. While a test runs, it prints a line every five seconds,
+ * so that a silent console means that the machine hangs. Then it uses the SPI buses that the machine has. All its lines
+ * go through the kernel's log: a line that goes straight to the console could come between the parts of one of the
+ * kernel's. */
 #include <errno.h>
 #include <fcntl.h>
 #include <linux/spi/spidev.h>
@@ -119,6 +120,7 @@ int main(void)
     setvbuf(stdout, NULL, _IOLBF, 0);
     mount("sysfs", "/sys", "sysfs", 0, NULL);
     printf("init: %ld processors\n", sysconf(_SC_NPROCESSORS_ONLN));
+    test("first", "16384", 0, "1");
     test("random", "16384", 0, "0");
     test("long", "1048576", 1, "1");
     use_spi("spi0");

@@ -7,7 +7,9 @@
 
 #define REG(address) (*(volatile uint32_t *)(address))
 #define BYTE(address) (*(volatile uint8_t *)(address))
+#ifndef UART
 #define UART 0xE0000000u
+#endif
 #define SLCR 0xF8000000u
 #if EXYNOS
 #define RAM 0x40000000u
@@ -22,6 +24,7 @@
 #endif
 #define DMA controllers[controller]
 #define INTEN (DMA + 0x20)
+#define RIS (DMA + 0x24)
 #define FTR(channel) (DMA + 0x40 + 4 * (channel))
 #define CSR(channel) (DMA + 0x100 + 8 * (channel))
 #define DAR(channel) (DMA + 0x404 + 0x20 * (channel))
@@ -29,8 +32,8 @@
 #define WAITING 4
 #define FAULTING 15
 
-/* All processors begin here; the second one waits for ever. */
-__asm__(".section .text.start\n.global _start\n_start:\n mrc p15, 0, r0, c0, c0, 5\n tst r0, #15\n"
+/* All processors begin here; the second one waits for ever. The first passes r0, r1 and r2 to main. */
+__asm__(".section .text.start\n.global _start\n_start:\n mrc p15, 0, r3, c0, c0, 5\n tst r3, #15\n"
         "1: wfine\n bne 1b\n ldr sp, =stack_top\n bl main\n2: b 2b\n.text\n");
 
 static uint32_t wrong; /* how many checks failed */

@@ -1,7 +1,7 @@
-/* Where a guest lies in RAM, which begins at the symbol ram: at 1 MiB, with 64 KiB of stack. */
+/* Where a guest lies in RAM: from the symbol start on, with 64 KiB of stack. */
 ENTRY(_start)
 SECTIONS {
-    . = ram + 0x00100000;
+    . = start;
     .text : { *(.text.start) *(.text*) }
     .data : { *(.rodata*) *(.data*) }
     .bss : { *(.bss*) *(COMMON) }
