@@ -1,4 +1,14 @@
-"""Programs that are compiled without a proof."""
+"""Programs that are compiled without a proof.
+
+`rt try` compiles a program without a proof, runs it, and then removes it; it has no option that keeps it. So it gets a
+copy of the kit whose linker, before it ends, copies the program to a place of ours. This relies on three things that
+the kit doesn't promise: `rt` takes the kit that its own file is in, that kit has its linker in toolchain/bin/ld.lld,
+and the linker writes the program as `program` in the folder that it runs in. If one of them were otherwise, nothing
+would be kept, and ./prove would end with status 3.
+
+No claim of a proof rests on what is kept. It stays in out/unproved/, where neither `rt` nor another part of ./prove
+reads it, and whoever runs it is told that it isn't proved.
+"""
 import concurrent.futures
 import os
 import re
