@@ -418,7 +418,7 @@ enum dma330_code {
     /* of every kind of call */
     DMA330_NOT_OPEN = -1,             /* the controller, channel or device is zeroed or closed */
     DMA330_ALREADY_OPEN = -2,         /* an open of a controller, channel or device that is open */
-    DMA330_NO_MEMORY = -3,            /* malloc or realloc returned NULL */
+    DMA330_NO_MEMORY = -3,            /* out of memory: malloc or realloc returned NULL */
     DMA330_BUFFER_TOO_SMALL = -4,     /* the output has more bytes or items than there is room */
     DMA330_NO_CHANNEL = -5,           /* the channel's number isn't below the number of channels */
     DMA330_NO_PROGRAM = -6,           /* the channel has no program */

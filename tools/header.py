@@ -62,6 +62,13 @@ def enums():
     return found
 
 
+def comments(enum):
+    """Returns what the comments beside the numbers of an enum say, each as one line, by their names."""
+    body = re.search(r"\nenum dma330_%s \{(.*?)\n\};" % enum, read(HEADER), re.S)[1]
+    found = re.findall(r"DMA330_(\w+) = -?\d+,? */\* (.*?) \*/", body, re.S)
+    return {name: re.sub(r"\s*\n\s*\* ", " ", text) for name, text in found}
+
+
 def defines():
     """Returns the macros that are one word each, by their names."""
     return dict(re.findall(r"^#define DMA330_(\w+) (\S+)$", read(HEADER), re.M))

@@ -6,8 +6,8 @@ import threading
 import weakref
 from typing import Any, Iterable, NoReturn, Tuple, TypeVar
 
+from ._error import check
 from ._library import CALLS, STRUCTS, byref, room_for, size_t, u8
-from .errors import check
 from .memory import Lent, Region
 
 _Self = TypeVar("_Self", bound="Opened")

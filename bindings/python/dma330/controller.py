@@ -3,9 +3,10 @@ from __future__ import annotations
 
 from typing import TYPE_CHECKING, Any, Optional, SupportsIndex
 
+from ._error import check
 from ._library import STRUCTS, byref, room_for, u8, u32, u64
 from ._opened import Opened
-from .errors import OutOfMemoryRange, check
+from .errors import OutOfMemoryRange
 from .memory import bytes_of, event_of, number, segment, segments
 from .values import Access, LastStep, Outcome, Report, Result, Run, Status
 

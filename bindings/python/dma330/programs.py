@@ -4,8 +4,9 @@ from __future__ import annotations
 import struct
 from typing import TYPE_CHECKING, Any, Callable, List, Optional, SupportsIndex, Tuple, Union
 
+from ._error import check
 from ._library import CALLS, STRUCTS, byref, room_for, size_t, u8, u32, u64
-from .errors import BufferTooSmall, check
+from .errors import BufferTooSmall
 from .memory import Region, bytes_of, event_of, number, segments
 from .values import (MAX_PROGRAM, Cause, End, Event, EventKind, Explanation, Known, Registers, Repeated, RunEnd,
                      Segment, Start, fault_of)

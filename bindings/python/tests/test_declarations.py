@@ -7,7 +7,7 @@ import sys
 import unittest
 
 import dma330
-from dma330 import _library, errors, values
+from dma330 import _error, _library, values
 
 sys.path.append(str(pathlib.Path(__file__).resolve().parents[3] / "tools"))
 
@@ -43,9 +43,9 @@ class Declarations(unittest.TestCase):
         self.assertEqual({name: it for name, it in header.enums().items() if name != "code"}, found)
 
     def test_codes(self):
-        made = {it(*range(len(it.about))).name: code for code, it in errors.BY_CODE.items()}
+        made = {it(*range(len(it.about))).name: code for code, it in _error.BY_CODE.items()}
         self.assertEqual(header.enums()["code"], {"OK": 0, **made})
-        self.assertTrue(all(getattr(dma330, it.__name__) is it for it in errors.BY_CODE.values()))
+        self.assertTrue(all(getattr(dma330, it.__name__) is it for it in _error.BY_CODE.values()))
 
     def test_numbers(self):
         found = header.defines()

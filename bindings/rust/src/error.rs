@@ -1,129 +1,14 @@
 //! Why a call was refused.
 
+mod codes;
+
+pub use codes::{AssemblyFault, DisassemblyFault, Error};
+
 use crate::sys::{self, BUSY, CODES, LINE_CODES, OFFSET_CODES, RUNNING, UNEXPLAINED};
-use crate::{found, named, number_of, Cause};
+use crate::{found, named, number_of};
+use codes::{LINE_TEXTS, OFFSET_TEXTS, TEXTS};
 use std::error;
 use std::fmt;
-
-/// Why a call was refused: of the causes that the call's documentation lists, the first that applies. A refused call
-/// changes nothing, except for [`Device::restore`](crate::Device::restore) with `BadSave`.
-///
-/// ```
-/// let busy = dma330::Error::Busy { channel: 1, cookie: 3 };
-/// assert_eq!(busy.to_string(), "cookie 3 of channel 1 runs, and conflicts");
-/// ```
-#[derive(Clone, Copy, Debug, PartialEq, Eq, Hash)]
-#[non_exhaustive]
-pub enum Error {
-    /// Out of memory: an allocation failed.
-    NoMemory,
-    /// An event is above 31.
-    BadEvent,
-    /// The channel has no program.
-    NoProgram,
-    /// A range or a segment ends above the memory's size.
-    OutOfMemoryRange,
-    /// The call conflicts with a running transfer.
-    Busy {
-        /// Its channel, the lowest of several.
-        channel: u8,
-        /// Its cookie.
-        cookie: u32,
-    },
-    /// The channel's number isn't below the number of channels.
-    NoChannel,
-    /// The channel has used its last cookie, 2147483647.
-    CookiesSpent,
-    /// An instruction is due, and the step count is 2^64 - 1.
-    StepsSpent,
-    /// A range in which accesses are to fail is empty, or ends above the last address.
-    BadRange,
-    /// A checkpoint was requested while a transfer runs.
-    Running {
-        /// Its channel, the lowest of several.
-        channel: u8,
-        /// Its cookie.
-        cookie: u32,
-    },
-    /// The number of channels isn't 1 to 8.
-    BadChannels,
-    /// The size of a memory isn't 1 to 4294963200 bytes.
-    SizeOutOfRange,
-    /// There are more than 64 regions, or one begins before the end of the one before it (also if one of them is
-    /// empty), or one ends above 4294967296.
-    BadRegions,
-    /// No device can have this configuration, or no program can begin so.
-    BadConfig,
-    /// A list has no segment.
-    EmptyList,
-    /// A list has more than 64 segments.
-    TooManySegments,
-    /// A segment has length 0.
-    EmptySegment,
-    /// A segment ends above the last address.
-    SegmentWraps,
-    /// The lists have different numbers of bytes.
-    TotalsDiffer,
-    /// A list has more than 1048576 bytes.
-    TooLong,
-    /// Two destination segments share an address.
-    DestinationsMeet,
-    /// A source and a destination segment share an address.
-    SourceMeetsDestination,
-    /// A program has more than 8192 bytes.
-    ProgramTooLong,
-    /// The bytes are no save of a channel, or of any device.
-    BadSave,
-    /// The save is of a device of another version or configuration.
-    OtherDevice,
-    /// A line of assembly text has a fault.
-    Assembly {
-        /// Its number, from 1.
-        line: usize,
-        /// Its fault.
-        fault: AssemblyFault,
-    },
-    /// No instruction begins at a byte of a program.
-    Disassembly {
-        /// The byte's offset.
-        offset: usize,
-        /// Why none begins there.
-        fault: DisassemblyFault,
-    },
-    /// A program isn't explained.
-    Unexplained {
-        /// Why.
-        cause: Cause,
-        /// The offset of the instruction that has the cause.
-        pc: u32,
-        /// How many instructions are executed before it.
-        steps: u32,
-    },
-}
-
-/// What is wrong with a line of assembly text.
-#[derive(Clone, Copy, Debug, PartialEq, Eq, Hash)]
-pub enum AssemblyFault {
-    /// No instruction has this name.
-    BadMnemonic,
-    /// An operand is missing, of a wrong form, or one too many.
-    BadOperand,
-    /// A number is outside its range.
-    NumberOutOfRange,
-    /// With this line the program would have more than 8192 bytes.
-    ProgramTooLong,
-}
-
-/// Why no instruction begins at a byte.
-#[derive(Clone, Copy, Debug, PartialEq, Eq, Hash)]
-pub enum DisassemblyFault {
-    /// The bytes end within an instruction.
-    CutInstruction,
-    /// No instruction begins with this byte.
-    UnknownInstruction,
-    /// A field is outside its range.
-    BadField,
-}
 
 impl Error {
     /// Returns the error of a code that has no place.
@@ -168,64 +53,33 @@ impl Error {
     }
 }
 
+// Writes what a table says of a name.
+fn write_text<N: PartialEq>(f: &mut fmt::Formatter<'_>, texts: &[(N, &'static str)], name: N) -> fmt::Result {
+    f.write_str(found(texts, name).expect("the table has it"))
+}
+
 impl fmt::Display for AssemblyFault {
     fn fmt(&self, f: &mut fmt::Formatter<'_>) -> fmt::Result {
-        f.write_str(match self {
-            AssemblyFault::BadMnemonic => "no instruction has this name",
-            AssemblyFault::BadOperand => "an operand is missing, of a wrong form, or one too many",
-            AssemblyFault::NumberOutOfRange => "a number is outside its range",
-            AssemblyFault::ProgramTooLong => "the program is longer than 8192 bytes",
-        })
+        write_text(f, &LINE_TEXTS, *self)
     }
 }
 
 impl fmt::Display for DisassemblyFault {
     fn fmt(&self, f: &mut fmt::Formatter<'_>) -> fmt::Result {
-        f.write_str(match self {
-            DisassemblyFault::CutInstruction => "the bytes end within an instruction",
-            DisassemblyFault::UnknownInstruction => "no instruction begins with this byte",
-            DisassemblyFault::BadField => "a field is outside its range",
-        })
+        write_text(f, &OFFSET_TEXTS, *self)
     }
 }
 
 impl fmt::Display for Error {
     fn fmt(&self, f: &mut fmt::Formatter<'_>) -> fmt::Result {
-        let text = match self {
-            Error::NoMemory => "out of memory",
-            Error::BadEvent => "an event is above 31",
-            Error::NoProgram => "the channel has no program",
-            Error::OutOfMemoryRange => "a range ends above the memory's size",
-            Error::Busy { channel, cookie } => {
-                return write!(f, "cookie {cookie} of channel {channel} runs, and conflicts");
-            }
-            Error::NoChannel => "there is no such channel",
-            Error::CookiesSpent => "the channel has given its last cookie",
-            Error::StepsSpent => "the step count is at its end",
-            Error::BadRange => "the range is empty or ends above the last address",
-            Error::Running { channel, cookie } => {
-                return write!(f, "cookie {cookie} of channel {channel} runs");
-            }
-            Error::BadChannels => "the number of channels is not 1 to 8",
-            Error::SizeOutOfRange => "the size is not 1 to 4294963200 bytes",
-            Error::BadRegions => "there are more than 64 regions, or they don't rise, overlap, or end above 4294967296",
-            Error::BadConfig => "no device can have this configuration, or no program can begin so",
-            Error::EmptyList => "a list has no segment",
-            Error::TooManySegments => "a list has more than 64 segments",
-            Error::EmptySegment => "a segment has length 0",
-            Error::SegmentWraps => "a segment ends above the last address",
-            Error::TotalsDiffer => "the lists have different numbers of bytes",
-            Error::TooLong => "a list has more than 1048576 bytes",
-            Error::DestinationsMeet => "two destination segments share an address",
-            Error::SourceMeetsDestination => "a source and a destination segment share an address",
-            Error::ProgramTooLong => "the program has more than 8192 bytes",
-            Error::BadSave => "the bytes are no save of a channel, or of any device",
-            Error::OtherDevice => "the save is of a device of another version or configuration",
-            Error::Assembly { line, fault } => return write!(f, "line {line}: {fault}"),
-            Error::Disassembly { offset, fault } => return write!(f, "offset {offset}: {fault}"),
-            Error::Unexplained { cause, pc, .. } => return write!(f, "the program isn't explained: offset {pc}: {cause}"),
-        };
-        f.write_str(text)
+        match self {
+            Error::Busy { channel, cookie } => write!(f, "cookie {cookie} of channel {channel} runs, and conflicts"),
+            Error::Running { channel, cookie } => write!(f, "cookie {cookie} of channel {channel} runs"),
+            Error::Assembly { line, fault } => write!(f, "line {line}: {fault}"),
+            Error::Disassembly { offset, fault } => write!(f, "offset {offset}: {fault}"),
+            Error::Unexplained { cause, pc, .. } => write!(f, "the program isn't explained: offset {pc}: {cause}"),
+            plain => write_text(f, &TEXTS, *plain),
+        }
     }
 }
 
