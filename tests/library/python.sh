@@ -24,7 +24,7 @@ in_python() {
     fi
     count "Python" "$last_line" env "DMA330_SO=$full/libdma330.so.1" PYTHONDONTWRITEBYTECODE=1 \
         python3 bindings/python/tests
-    grep ' left out$' "$out/log"
+    grep ' left out$' "$log"
 }
 
 if ! has python3; then
