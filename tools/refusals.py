@@ -1,4 +1,5 @@
-"""Writes the codes of dma330.h as errors in Rust and exceptions in Python, with what the header's comments say of them."""
+"""Writes the codes of dma330.h as errors in Rust and exceptions in Python, with what the header's comments say of them.
+"""
 import re
 import textwrap
 
@@ -140,8 +141,13 @@ def camel(name):
 
 def texts():
     """Returns what the header's comments say of the codes, with names as they are outside C."""
-    names = lambda text: re.sub(r"\bdma330_(\w+)", lambda it: camel(it[1]), text.replace("DMA330_", ""))
-    return {name: names(text) for name, text in header.comments("code").items()}
+    return {name: re.sub(r"\bdma330_(\w+)", lambda it: camel(it[1]), text.replace("DMA330_", ""))
+            for name, text in header.comments("code").items()}
+
+
+def filled(text, first, rest=None):
+    """Returns a text with these indents of its first line and of the others."""
+    return textwrap.fill(text, WIDTH, initial_indent=first, subsequent_indent=first if rest is None else rest)
 
 
 def sentence(text):
@@ -155,8 +161,7 @@ def in_rust():
     parts = {}
     for part, enum, names in [("plain", "Error", [it for it in found if it not in others]),
                               ("lines", "AssemblyFault", OF_LINE), ("offsets", "DisassemblyFault", OF_OFFSET)]:
-        parts[part] = "\n".join("%s\n    %s," % (textwrap.fill(
-            sentence(found[it]), WIDTH, initial_indent="    /// ", subsequent_indent="    /// "), camel(it)) for it in names)
+        parts[part] = "\n".join("%s\n    %s," % (filled(sentence(found[it]), "    /// "), camel(it)) for it in names)
         parts[part + "_count"] = len(names)
         parts[part + "_texts"] = "\n".join('    (%s::%s, "%s"),' % (enum, camel(it), found[it]) for it in names)
     return RUST % parts
@@ -166,7 +171,7 @@ def exception(name, text):
     """Returns the class of an exception."""
     said = " ".join(filter(None, [sentence(text), SAID.get(name)]))
     lines = ["class %s(Error, %s):" % (camel(name), BASES.get(name, "ValueError")),
-             textwrap.fill('"""%s"""' % said, WIDTH, initial_indent="    ", subsequent_indent="    ")]
+             filled('"""%s"""' % said, "    ")]
     members = MEMBERS.get(name, [])
     if members:
         lines.append("    about = %s" % str(tuple(it.split(":")[0] for it in members)).replace("'", '"'))
@@ -177,5 +182,5 @@ def in_python():
     """Returns the text of errors.py."""
     found = texts()
     names = ["Error", *map(camel, found)]
-    exported = textwrap.fill("__all__ = [%s]" % ", ".join('"%s"' % it for it in names), WIDTH, subsequent_indent=" " * 11)
+    exported = filled("__all__ = [%s]" % ", ".join('"%s"' % it for it in names), "", " " * 11)
     return PYTHON % "\n\n\n".join([exported, *(exception(*it) for it in found.items())])

@@ -1,6 +1,7 @@
 """The crates: the list of them, the folders and digests of their sources, the kit, and what outlives a clone."""
 import contextlib
 import hashlib
+import importlib
 import os
 import shutil
 import sys
@@ -70,6 +71,13 @@ def is_static(name):
 def kit_folder():
     """Returns the folder of the kit, which has the command rt in bin/."""
     return os.path.dirname(os.path.dirname(os.path.realpath(shutil.which("rt") or sys.exit("there is no command rt"))))
+
+
+def kit_module():
+    """Returns the module of which rt is made, for what no command of rt does. The kit promises nothing of it."""
+    sys.dont_write_bytecode = True
+    sys.path.insert(0, os.path.join(kit_folder(), "bin"))
+    return importlib.import_module("rtlib")
 
 
 def digest_of_all():

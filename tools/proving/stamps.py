@@ -7,29 +7,20 @@ processor.
 
 The stamps rely on this:
 
-- The kit's module rtlib has `crates_below`, and of a crate `stamp`, `rlib` and `folder`; `rt` looks for the stamp in
-  out/rlib. The kit promises none of it. If a name is missing, no stamp is written.
+- The kit's module rtlib has `crates_below`, and of a crate `is_program`, `is_static`, `folder`, `rlib` and `stamp`;
+  `rt` looks for the stamp in out/rlib. The kit promises none of it. If a name is missing, no stamp is written.
 - `rt ci` has ended with status 0, so that it has proved each library, from the files in this clone. .ci/run looks.
 - The sources are what they were before `rt ci`, by their digest. This can't show that a file was changed while `rt ci`
   read it, and changed back before it ended.
 
 If one of these were wrong, `rt` could take a library for proved that isn't, or that is proved from other sources. Then
-the programs and the archive that ./prove builds over it could have code that no proof covers. The verdict of the gate
-would still be right: `rt ci` moves aside what earlier runs built, and reads no stamp.
+the programs and the archive that ./prove builds over it could have code that no proof covers. The verdict of `rt ci`
+would still be right: it moves aside what earlier runs built, and reads no stamp.
 """
 import contextlib
-import importlib
 import os
-import sys
 
-from proving.crates import TOP, digest_of_all, kit_folder
-
-
-def libraries():
-    """Returns the crates that others use, as the kit's module has them."""
-    sys.path.insert(0, os.path.join(kit_folder(), "bin"))
-    crates = importlib.import_module("rtlib").crates_below(TOP)
-    return [it for it in crates if not it.is_program and not it.is_static]
+from proving.crates import TOP, digest_of_all, kit_module
 
 
 def stamp_those_of_ci(digest):
@@ -38,7 +29,7 @@ def stamp_those_of_ci(digest):
     A library fits only the libraries that it was built over, so either all get a stamp or none: none if a source has
     changed, a library is missing, or one has a stamp, as it has if an earlier `rt lib` built it."""
     with contextlib.suppress(ImportError, AttributeError, OSError, SystemExit):
-        found = libraries()
+        found = [it for it in kit_module().crates_below(TOP) if not it.is_program and not it.is_static]
         stamps = {os.path.join(it.folder, "out/rlib/stamp"): it.stamp() for it in found}
         are_built = all(os.path.isdir(it.rlib) for it in found)
         if digest != digest_of_all() or not are_built or any(map(os.path.exists, stamps)):

@@ -3,13 +3,11 @@
 They are kept outside the clones, in ~/.cache/dilkwafam-prove/verdicts, by what they were proved from.
 """
 import contextlib
-import importlib
 import os
 import re
 import shutil
-import sys
 
-from proving.crates import SOURCES, TOP, cache_folder, digest_of, folder_of, key_of, kit_folder
+from proving.crates import SOURCES, TOP, cache_folder, digest_of, folder_of, key_of, kit_module
 from proving.trees import call, lay_out
 
 # What the prover takes as it is in each run: the kit's logic and libraries as they were built, and that the statements
@@ -69,8 +67,7 @@ def texts_of(names):
 def words_from_nothing(tree, name):
     """Returns the words of a check that takes nothing from an earlier one, or None if the libraries below aren't built
     from the sources in the tree. `rt` has such a check only of a crate with all below, so this asks rt's own module."""
-    sys.path.insert(0, os.path.join(kit_folder(), "bin"))
-    rtlib = importlib.import_module("rtlib")
+    rtlib = kit_module()
     crate = next(it for it in rtlib.crates_below(tree) if it.name == name)
     is_built = all(it.is_built() for it in crate.below())
     return [rtlib.RATTLE, "check", *crate.words(["--jobs", "1"], keeps=False)] if is_built else None
