@@ -24,7 +24,8 @@ try() {
 
 # add_last NAME [FILE]: adds the counts in the last line of the output. Adds one failure if that has none.
 add_last() {
-    set -- "$1" "${2:-$log}" $(tail -n 1 "${2:-$log}" | sed -n 's/^\([0-9][0-9]*\) passed, \([0-9][0-9]*\) failed$/\1 \2/p')
+    set -- "$1" "${2:-$log}"
+    set -- "$@" $(tail -n 1 "$2" | sed -n 's/^\([0-9][0-9]*\) passed, \([0-9][0-9]*\) failed$/\1 \2/p')
     [ "${3:-0}${4:-0}" -gt 0 ] || set -- "$1" "$2" 0 1
     add "$1" "$3" "$4" "$2"
 }
