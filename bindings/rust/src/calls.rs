@@ -95,7 +95,7 @@ impl<'a> Region<'a> {
     }
 }
 
-// Returns the value that a call wrote, or the error of its code.
+// Returns the value, or the error of a code.
 fn checked<T>(code: i32, value: T) -> Result<T, Error> {
     match code {
         OK => Ok(value),
@@ -103,20 +103,35 @@ fn checked<T>(code: i32, value: T) -> Result<T, Error> {
     }
 }
 
-// Does the same for a call that may conflict with a running transfer.
-fn checked_with_conflict(code: i32, conflict: RawConflict) -> Result<(), Error> {
+// Returns the value that a call writes, or the error of its code.
+fn written<T: Default>(call: impl FnOnce(&mut T) -> i32) -> Result<T, Error> {
+    let mut value = T::default();
+    checked(call(&mut value), value)
+}
+
+// Returns the value that a call writes; `None` if the call returns the code `none`. It returns no other code.
+fn written_unless<T: Default>(none: i32, call: impl FnOnce(&mut T) -> i32) -> Option<T> {
+    let mut value = T::default();
+    let code = call(&mut value);
+    assert!(code == OK || code == none, "the library returned the code {code}");
+    (code == OK).then_some(value)
+}
+
+// Returns the value that a call writes, which is never refused.
+fn always_written<T: Default>(call: impl FnOnce(&mut T) -> i32) -> T {
+    written_unless(OK, call).expect("it returned OK")
+}
+
+// Returns the error of a call's code, if any; the call may conflict with a running transfer.
+fn unless_in_conflict(call: impl FnOnce(&mut RawConflict) -> i32) -> Result<(), Error> {
+    let mut conflict = RawConflict::default();
+    let code = call(&mut conflict);
     let (channel, cookie) = (conflict.channel as u8, conflict.cookie);
     match code {
         BUSY => Err(Error::Busy { channel, cookie }),
         RUNNING => Err(Error::Running { channel, cookie }),
         _ => checked(code, ()),
     }
-}
-
-// Returns the value that a call wrote; `None` if the call returned the code `none`. It returns no other code.
-fn value_unless<T>(none: i32, code: i32, value: T) -> Option<T> {
-    assert!(code == OK || code == none, "the library returned the code {code}");
-    (code == OK).then_some(value)
 }
 
 /// A controller that is open, and is closed when it is dropped.
@@ -137,43 +152,33 @@ impl Handle {
     }
 
     pub fn write(&mut self, addr: u32, bytes: &[u8]) -> Result<(), Error> {
-        let mut conflict = RawConflict::default();
         let (from, len) = (bytes.as_ptr(), bytes.len());
         // SAFETY: Nobody else uses the controller. The bytes come with their number, and `conflict` is a local.
-        let code = unsafe { dma330_write(self.raw.get_mut(), addr, from, len, &mut conflict) };
-        checked_with_conflict(code, conflict)
+        unless_in_conflict(|conflict| unsafe { dma330_write(self.raw.get_mut(), addr, from, len, conflict) })
     }
 
     pub fn read(&mut self, addr: u32, out: &mut [u8]) -> Result<(), Error> {
-        let mut conflict = RawConflict::default();
         let (to, len) = (out.as_mut_ptr(), out.len());
         // SAFETY: Nobody else uses the controller or `out`, which comes with its length. `conflict` is a local.
-        let code = unsafe { dma330_read(self.raw.get_mut(), addr, to, len, &mut conflict) };
-        checked_with_conflict(code, conflict)
+        unless_in_conflict(|conflict| unsafe { dma330_read(self.raw.get_mut(), addr, to, len, conflict) })
     }
 
     pub fn submit(&mut self, channel: u8, src: &[Segment], dst: &[Segment], wait: i32, signal: i32) -> Result<u32, Error> {
-        let mut cookie = 0;
         let (from, to) = (src.as_ptr(), dst.as_ptr());
         let raw = self.raw.get_mut();
         // SAFETY: Nobody else uses the controller. The lists come with their lengths, and `cookie` is a local.
-        let code = unsafe { dma330_submit(raw, channel, from, src.len(), to, dst.len(), wait, signal, &mut cookie) };
-        checked(code, cookie)
+        written(|cookie| unsafe { dma330_submit(raw, channel, from, src.len(), to, dst.len(), wait, signal, cookie) })
     }
 
     pub fn submit_fill(&mut self, channel: u8, src: u32, dst: &[Segment], wait: i32, signal: i32) -> Result<u32, Error> {
-        let mut cookie = 0;
         let raw = self.raw.get_mut();
         // SAFETY: Nobody else uses the controller. The list comes with its length, and `cookie` is a local.
-        let code = unsafe { dma330_submit_fill(raw, channel, src, dst.as_ptr(), dst.len(), wait, signal, &mut cookie) };
-        checked(code, cookie)
+        written(|cookie| unsafe { dma330_submit_fill(raw, channel, src, dst.as_ptr(), dst.len(), wait, signal, cookie) })
     }
 
     pub fn issue(&mut self, channel: u8) -> Result<u32, Error> {
-        let mut count = 0;
         // SAFETY: Nobody else uses the controller, and `count` is a local.
-        let code = unsafe { dma330_issue(self.raw.get_mut(), channel, &mut count) };
-        checked(code, count)
+        written(|count| unsafe { dma330_issue(self.raw.get_mut(), channel, count) })
     }
 
     pub fn pause(&mut self, channel: u8) -> Result<(), Error> {
@@ -187,17 +192,13 @@ impl Handle {
     }
 
     pub fn terminate(&mut self, channel: u8) -> Result<u32, Error> {
-        let mut count = 0;
         // SAFETY: Nobody else uses the controller, and `count` is a local.
-        let code = unsafe { dma330_terminate(self.raw.get_mut(), channel, &mut count) };
-        checked(code, count)
+        written(|count| unsafe { dma330_terminate(self.raw.get_mut(), channel, count) })
     }
 
     pub fn step(&mut self, channel: u8, most: u32) -> Result<RawReport, Error> {
-        let mut report = RawReport::default();
         // SAFETY: Nobody else uses the controller, and `report` is a local.
-        let code = unsafe { dma330_step(self.raw.get_mut(), channel, most, &mut report) };
-        checked(code, report)
+        written(|report| unsafe { dma330_step(self.raw.get_mut(), channel, most, report) })
     }
 
     pub fn status(&self, channel: u8, cookie: u32) -> i32 {
@@ -206,65 +207,43 @@ impl Handle {
     }
 
     pub fn result(&self, channel: u8, cookie: u32) -> Option<RawOutcome> {
-        let mut outcome = RawOutcome::default();
         // SAFETY: No other call uses the controller, and `outcome` is a local.
-        let code = unsafe { dma330_result(self.raw.get(), channel, cookie, &mut outcome) };
-        value_unless(NO_RESULT, code, outcome)
+        written_unless(NO_RESULT, |outcome| unsafe { dma330_result(self.raw.get(), channel, cookie, outcome) })
     }
 
     pub fn running(&self, channel: u8) -> Option<RawRun> {
-        let mut running = RawRun::default();
         // SAFETY: No other call uses the controller, and `running` is a local.
-        let code = unsafe { dma330_running(self.raw.get(), channel, &mut running) };
-        value_unless(NOT_RUNNING, code, running)
+        written_unless(NOT_RUNNING, |running| unsafe { dma330_running(self.raw.get(), channel, running) })
     }
 
     pub fn unfinished(&self, channel: u8) -> u32 {
-        let mut count = 0;
         // SAFETY: No other call uses the controller, and `count` is a local.
-        let code = unsafe { dma330_unfinished(self.raw.get(), channel, &mut count) };
-        assert_eq!(code, OK);
-        count
+        always_written(|count| unsafe { dma330_unfinished(self.raw.get(), channel, count) })
     }
 
     pub fn forgotten(&self, channel: u8) -> u32 {
-        let mut count = 0;
         // SAFETY: No other call uses the controller, and `count` is a local.
-        let code = unsafe { dma330_forgotten(self.raw.get(), channel, &mut count) };
-        assert_eq!(code, OK);
-        count
+        always_written(|count| unsafe { dma330_forgotten(self.raw.get(), channel, count) })
     }
 
     pub fn steps(&self) -> u64 {
-        let mut steps = 0;
         // SAFETY: No other call uses the controller, and `steps` is a local.
-        let code = unsafe { dma330_steps(self.raw.get(), &mut steps) };
-        assert_eq!(code, OK);
-        steps
+        always_written(|steps| unsafe { dma330_steps(self.raw.get(), steps) })
     }
 
     pub fn history_entries(&self) -> u64 {
-        let mut count = 0;
         // SAFETY: No other call uses the controller, and `count` is a local.
-        let code = unsafe { dma330_history_entries(self.raw.get(), &mut count) };
-        assert_eq!(code, OK);
-        count
+        always_written(|count| unsafe { dma330_history_entries(self.raw.get(), count) })
     }
 
     pub fn history_bytes(&self) -> u64 {
-        let mut count = 0;
         // SAFETY: No other call uses the controller, and `count` is a local.
-        let code = unsafe { dma330_history_bytes(self.raw.get(), &mut count) };
-        assert_eq!(code, OK);
-        count
+        always_written(|count| unsafe { dma330_history_bytes(self.raw.get(), count) })
     }
 
     pub fn running_count(&self) -> u32 {
-        let mut count = 0;
         // SAFETY: No other call uses the controller, and `count` is a local.
-        let code = unsafe { dma330_running_count(self.raw.get(), &mut count) };
-        assert_eq!(code, OK);
-        count
+        always_written(|count| unsafe { dma330_running_count(self.raw.get(), count) })
     }
 
     pub fn inject_error(&mut self, access: u32, range: Segment) -> Result<(), Error> {
@@ -283,10 +262,8 @@ impl Handle {
     }
 
     pub fn checkpoint(&mut self) -> Result<(), Error> {
-        let mut conflict = RawConflict::default();
         // SAFETY: Nobody else uses the controller, and `conflict` is a local.
-        let code = unsafe { dma330_checkpoint(self.raw.get_mut(), &mut conflict) };
-        checked_with_conflict(code, conflict)
+        unless_in_conflict(|conflict| unsafe { dma330_checkpoint(self.raw.get_mut(), conflict) })
     }
 }
 

@@ -1,7 +1,7 @@
 //! The calls of channels and devices, which are lent the caller's memory. The head of `calls` says why they are sound.
 
 use super::programs::RawExplained;
-use super::{checked, value_unless, Region};
+use super::{always_written, checked, written, written_unless, Region};
 use crate::sys::*;
 use crate::{Error, Segment};
 use std::cell::UnsafeCell;
@@ -49,11 +49,9 @@ impl ChannelHandle {
     }
 
     pub fn step(&mut self, regions: &mut [Region<'_>], flags: &mut u32, most: u32) -> Result<RawChannelReport, Error> {
-        let mut report = RawChannelReport::default();
         let (lent, count) = (regions.as_ptr(), regions.len());
         // SAFETY: Nobody else uses the channel, the regions or `flags`. The list comes with its length.
-        let code = unsafe { dma330_channel_step(self.raw.get_mut(), lent, count, flags, most, &mut report) };
-        checked(code, report)
+        written(|report| unsafe { dma330_channel_step(self.raw.get_mut(), lent, count, flags, most, report) })
     }
 
     pub fn stop(&mut self) {
@@ -63,11 +61,8 @@ impl ChannelHandle {
     }
 
     pub fn registers(&self) -> RawRegisters {
-        let mut registers = RawRegisters::default();
         // SAFETY: No other call uses the channel, and `registers` is a local.
-        let code = unsafe { dma330_channel_registers(self.raw.get(), &mut registers) };
-        assert_eq!(code, OK);
-        registers
+        always_written(|registers| unsafe { dma330_channel_registers(self.raw.get(), registers) })
     }
 
     pub fn inject_error(&mut self, access: u32, range: Segment) -> Result<(), Error> {
@@ -83,11 +78,10 @@ impl ChannelHandle {
 
     /// Writes a save of the channel, and returns its length; `None` if it doesn't fit.
     pub fn save(&self, out: &mut [u8]) -> Option<usize> {
-        let mut len = 0;
+        let (raw, bytes, room) = (self.raw.get(), out.as_mut_ptr(), out.len());
         // SAFETY: No other call uses the channel, and nobody else uses `out`, which comes with its length. `len` is a
         // local.
-        let code = unsafe { dma330_channel_save(self.raw.get(), out.as_mut_ptr(), out.len(), &mut len) };
-        value_unless(BUFFER_TOO_SMALL, code, len)
+        written_unless(BUFFER_TOO_SMALL, |len| unsafe { dma330_channel_save(raw, bytes, room, len) })
     }
 
     pub fn restore(&mut self, save: &[u8]) -> Result<(), Error> {
@@ -127,11 +121,8 @@ impl DeviceHandle {
     }
 
     pub fn read(&self, offset: u32) -> u32 {
-        let mut value = 0;
         // SAFETY: No other call uses the device, and `value` is a local.
-        let code = unsafe { dma330_device_read(self.raw.get(), offset, &mut value) };
-        assert_eq!(code, OK);
-        value
+        always_written(|value| unsafe { dma330_device_read(self.raw.get(), offset, value) })
     }
 
     pub fn write(&mut self, offset: u32, value: u32, regions: &[Region<'_>]) -> Result<(), Error> {
@@ -141,46 +132,28 @@ impl DeviceHandle {
     }
 
     pub fn step(&mut self, channel: u8, most: u32, regions: &mut [Region<'_>]) -> Result<RawDeviceTurn, Error> {
-        let mut turn = RawDeviceTurn::default();
         let (lent, count) = (regions.as_ptr(), regions.len());
         // SAFETY: Nobody else uses the device or the regions. The list comes with its length, and `turn` is a local.
-        let code = unsafe { dma330_device_step(self.raw.get_mut(), channel, most, lent, count, &mut turn) };
-        checked(code, turn)
+        written(|turn| unsafe { dma330_device_step(self.raw.get_mut(), channel, most, lent, count, turn) })
     }
 
     pub fn registers(&self, channel: u8) -> Result<RawRegisters, Error> {
-        let mut registers = RawRegisters::default();
         // SAFETY: No other call uses the device, and `registers` is a local.
-        let code = unsafe { dma330_device_registers(self.raw.get(), channel, &mut registers) };
-        checked(code, registers)
+        written(|registers| unsafe { dma330_device_registers(self.raw.get(), channel, registers) })
     }
 
     pub fn step_rows(&mut self, channel: u8, most: u32, regions: &mut [Region<'_>]) -> Result<RawDeviceRows, Error> {
-        let mut rows = RawDeviceRows::default();
         let (lent, count) = (regions.as_ptr(), regions.len());
         // SAFETY: Nobody else uses the device or the regions. The list comes with its length, and `rows` is a local.
-        let code = unsafe { dma330_device_step_rows(self.raw.get_mut(), channel, most, lent, count, &mut rows) };
-        checked(code, rows)
+        written(|rows| unsafe { dma330_device_step_rows(self.raw.get_mut(), channel, most, lent, count, rows) })
     }
 
     pub fn explain(&self, channel: u8, most: u32) -> Result<RawExplained, Error> {
-        // SAFETY: No other call uses the device, and nobody else uses the lists or `explanation`. The lists come with
-        // their lengths.
-        RawExplained::by(|src, dst, zeros, events, explanation| unsafe {
-            dma330_device_explain(
-                self.raw.get(),
-                channel,
-                most,
-                src.as_mut_ptr(),
-                src.len(),
-                dst.as_mut_ptr(),
-                dst.len(),
-                zeros.as_mut_ptr(),
-                zeros.len(),
-                events.as_mut_ptr(),
-                events.len(),
-                explanation,
-            )
+        let raw = self.raw.get();
+        // SAFETY: No other call uses the device, and nobody else uses the lists or `out`. The lists come with their
+        // lengths.
+        RawExplained::by(|(src, s), (dst, d), (zeros, z), (events, e), out| unsafe {
+            dma330_device_explain(raw, channel, most, src, s, dst, d, zeros, z, events, e, out)
         })
     }
 
@@ -194,20 +167,16 @@ impl DeviceHandle {
     }
 
     pub fn can_step(&self) -> bool {
-        let mut can_step = 0;
         // SAFETY: No other call uses the device, and `can_step` is a local.
-        let code = unsafe { dma330_device_can_step(self.raw.get(), &mut can_step) };
-        assert_eq!(code, OK);
-        can_step != 0
+        always_written(|can_step| unsafe { dma330_device_can_step(self.raw.get(), can_step) }) != 0
     }
 
     /// Writes a save of the device, and returns its length; `None` if it doesn't fit.
     pub fn save(&self, out: &mut [u8]) -> Option<usize> {
-        let mut len = 0;
+        let (raw, bytes, room) = (self.raw.get(), out.as_mut_ptr(), out.len());
         // SAFETY: No other call uses the device, and nobody else uses `out`, which comes with its length. `len` is a
         // local.
-        let code = unsafe { dma330_device_save(self.raw.get(), out.as_mut_ptr(), out.len(), &mut len) };
-        value_unless(BUFFER_TOO_SMALL, code, len)
+        written_unless(BUFFER_TOO_SMALL, |len| unsafe { dma330_device_save(raw, bytes, room, len) })
     }
 
     pub fn restore(&mut self, save: &[u8]) -> Result<(), Error> {

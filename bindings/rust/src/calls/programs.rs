@@ -1,15 +1,13 @@
 //! The calls about programs alone. The head of `calls` says why they are sound.
 
-use super::checked;
+use super::written;
 use crate::sys::*;
 use crate::{Error, Repeated, Segment};
 
 pub fn run_program(program: &[u8], memory: &mut [u8], limit: u32) -> Result<RawRunEnd, Error> {
-    let mut end = RawRunEnd::default();
     let (bytes, room) = (memory.as_mut_ptr(), memory.len());
     // SAFETY: Nobody else uses `memory`. It and the program come with their lengths, and `end` is a local.
-    let code = unsafe { dma330_run_program(program.as_ptr(), program.len(), bytes, room, limit, &mut end) };
-    checked(code, end)
+    written(|end| unsafe { dma330_run_program(program.as_ptr(), program.len(), bytes, room, limit, end) })
 }
 
 /// Writes the bytes of the program with this text, and returns their number.
@@ -51,12 +49,20 @@ fn list_of<T: Clone + Default>(len: usize) -> Result<Vec<T>, Error> {
     Ok(list)
 }
 
+// A list that a call fills: its first item, and how many it has room for.
+type Room<T> = (*mut T, usize);
+
+fn room<T>(list: &mut [T]) -> Room<T> {
+    (list.as_mut_ptr(), list.len())
+}
+
 impl RawExplained {
     // Makes a call with lists of some room. If that is too small, as it is for few programs, repeats it, and so the run
     // of the program, with the room that the explanation has.
-    pub(super) fn by(
-        call: impl Fn(&mut [Repeated], &mut [Segment], &mut [Segment], &mut [RawEvent], &mut RawExplanation) -> i32,
-    ) -> Result<RawExplained, Error> {
+    pub(super) fn by<F>(call: F) -> Result<RawExplained, Error>
+    where
+        F: Fn(Room<Repeated>, Room<Segment>, Room<Segment>, Room<RawEvent>, &mut RawExplanation) -> i32,
+    {
         let mut explanation =
             RawExplanation { src_len: 256, dst_len: 256, zeros_len: 256, events_len: 64, ..Default::default() };
         loop {
@@ -64,7 +70,7 @@ impl RawExplained {
             let mut dst = list_of::<Segment>(explanation.dst_len)?;
             let mut zeros = list_of::<Segment>(explanation.zeros_len)?;
             let mut events = list_of::<RawEvent>(explanation.events_len)?;
-            match call(&mut src, &mut dst, &mut zeros, &mut events, &mut explanation) {
+            match call(room(&mut src), room(&mut dst), room(&mut zeros), room(&mut events), &mut explanation) {
                 OK => {
                     src.truncate(explanation.src_len);
                     dst.truncate(explanation.dst_len);
@@ -83,42 +89,24 @@ impl RawExplained {
 }
 
 pub fn explain(program: &[u8], bus: u32, start: &RawStart, most: u32) -> Result<RawExplained, Error> {
-    // SAFETY: Nobody else uses the lists or `explanation`. Lists and program come with their lengths.
-    RawExplained::by(|src, dst, zeros, events, explanation| unsafe {
-        dma330_explain(
-            program.as_ptr(),
-            program.len(),
-            bus,
-            start,
-            most,
-            src.as_mut_ptr(),
-            src.len(),
-            dst.as_mut_ptr(),
-            dst.len(),
-            zeros.as_mut_ptr(),
-            zeros.len(),
-            events.as_mut_ptr(),
-            events.len(),
-            explanation,
-        )
+    let (from, len) = (program.as_ptr(), program.len());
+    // SAFETY: Nobody else uses the lists or `out`. Lists and program come with their lengths.
+    RawExplained::by(|(src, s), (dst, d), (zeros, z), (events, e), out| unsafe {
+        dma330_explain(from, len, bus, start, most, src, s, dst, d, zeros, z, events, e, out)
     })
 }
 
 /// Writes the program of a copy, and returns its length.
 pub fn plan(src: &[Segment], dst: &[Segment], wait: i32, signal: i32, bus: u32, out: &mut [u8]) -> Result<usize, Error> {
-    let mut len = 0;
     let (from, to) = (src.as_ptr(), dst.as_ptr());
     let (bytes, room) = (out.as_mut_ptr(), out.len());
     // SAFETY: Nobody else uses `out`. It and the lists come with their lengths, and `len` is a local.
-    let code = unsafe { dma330_plan(from, src.len(), to, dst.len(), wait, signal, bus, bytes, room, &mut len) };
-    checked(code, len)
+    written(|len| unsafe { dma330_plan(from, src.len(), to, dst.len(), wait, signal, bus, bytes, room, len) })
 }
 
 /// Writes the program of a fill, and returns its length.
 pub fn plan_fill(src: u32, dst: &[Segment], wait: i32, signal: i32, bus: u32, out: &mut [u8]) -> Result<usize, Error> {
-    let mut len = 0;
     let (bytes, room) = (out.as_mut_ptr(), out.len());
     // SAFETY: Nobody else uses `out`. It and the list come with their lengths, and `len` is a local.
-    let code = unsafe { dma330_plan_fill(src, dst.as_ptr(), dst.len(), wait, signal, bus, bytes, room, &mut len) };
-    checked(code, len)
+    written(|len| unsafe { dma330_plan_fill(src, dst.as_ptr(), dst.len(), wait, signal, bus, bytes, room, len) })
 }
