@@ -26,7 +26,7 @@ use std::process::ExitCode;
 
 use assembly::{AsmCause, AsmFault, DisFault};
 use insn::DecodeFault;
-use text::{hex_pair, paired_words, push_program};
+use text::{hex_pairs, push_program};
 use words::Printed;
 
 const MAX_INPUT: usize = 4_194_304;
@@ -95,21 +95,11 @@ fn asm(data: &[u8]) -> Printed {
 fn pairs(data: &[u8]) -> Result<Vec<u8>, Printed> {
     let mut bytes = Vec::new();
     bytes.try_reserve_exact(data.len() / 2).map_err(|_| no_memory())?;
-    let paired = paired_words(data, &mut bytes, |b| matches!(b, b' ' | b'\t' | b'\r' | b'\n'));
-    let mut rest = &data[3 * paired..];
-    loop {
-        match rest {
-            [] => return Ok(bytes),
-            [b' ' | b'\t' | b'\r' | b'\n', after @ ..] => rest = after,
-            [high, low, after @ ..] if hex_pair(*high, *low).is_some() => {
-                bytes.extend(hex_pair(*high, *low));
-                rest = after;
-            }
-            _ => {
-                let before = &data[..data.len() - rest.len()];
-                let line = 1 + before.iter().filter(|&&b| b == b'\n').count();
-                return Err(failed(format!("line {line}: Hex\n")));
-            }
+    match hex_pairs(data, &mut bytes, |b| matches!(b, b' ' | b'\t' | b'\r' | b'\n')) {
+        Ok(()) => Ok(bytes),
+        Err(place) => {
+            let line = 1 + data[..place].iter().filter(|&&b| b == b'\n').count();
+            Err(failed(format!("line {line}: Hex\n")))
         }
     }
 }

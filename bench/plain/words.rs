@@ -1,7 +1,7 @@
 //! Lines, words and numbers of scripts, and the faults of a line.
 
 use crate::mem::{NoMemory, Segment};
-use crate::text::{HEX, Line, Lines, hex_pair, paired_words};
+use crate::text::{HEX, Line, Lines, hex_pairs};
 
 /// Output of one subcommand, and its exit status.
 pub struct Printed {
@@ -185,17 +185,5 @@ pub fn small(value: u32) -> Result<u8, LineFault> {
 /// One or more words of pairs of hexadecimal digits, joined.
 pub fn hex_words(text: &[u8], bytes: &mut Vec<u8>) -> Result<(), LineFault> {
     bytes.try_reserve(text.len() / 2).map_err(NoMemory::from)?;
-    let paired = paired_words(text, bytes, is_blank);
-    let mut rest = &text[3 * paired..];
-    loop {
-        match rest {
-            [] => return Ok(()),
-            [blank, after @ ..] if is_blank(*blank) => rest = after,
-            [high, low, after @ ..] => {
-                bytes.push(hex_pair(*high, *low).ok_or(LineFault::Hex)?);
-                rest = after;
-            }
-            [_] => return Err(LineFault::Hex),
-        }
-    }
+    hex_pairs(text, bytes, is_blank).map_err(|_| LineFault::Hex)
 }
