@@ -47,7 +47,7 @@ pub struct ChannelRegisters {
     pub stored: u64,
 }
 
-/// Opens a channel without a program and without marks. Fails if it is open already, or if out of memory.
+/// Opens a channel without a program and without injected errors. Fails if it is open already, or if out of memory.
 #[unsafe(no_mangle)]
 pub extern "C" fn dma330_channel_open(alloc: Global, kept: &mut KeptChannel) -> i32
     ensures { Opens kept.old.channel.value result kept.new.channel.value }
@@ -188,7 +188,7 @@ pub extern "C" fn dma330_channel_stop(kept: &mut KeptChannel) -> i32
     OK
 }
 
-// ---- registers and marks
+// ---- registers and injected errors
 
 // Returns the registers and counts of a channel.
 pub(crate) fn registers_of(channel: &Channel) -> ChannelRegisters
@@ -250,7 +250,7 @@ pub extern "C" fn dma330_channel_inject_error(
     }
 }
 
-/// Removes all marks of this channel.
+/// Removes all errors that were injected into this channel.
 #[unsafe(no_mangle)]
 pub extern "C" fn dma330_channel_uninject_errors(kept: &mut KeptChannel) -> i32
     ensures { Becomes unmarked kept.old.channel.value result kept.new.channel.value }
@@ -264,8 +264,8 @@ pub extern "C" fn dma330_channel_uninject_errors(kept: &mut KeptChannel) -> i32
 
 // ---- saves
 
-/// Writes the channel's state, without its marks, as plain bytes to `out`, and their number to `len`. Fails if `out`
-/// is too small.
+/// Writes the channel's state, without injected errors, as plain bytes to `out`, and their number to `len`. Fails if
+/// `out` is too small.
 #[unsafe(no_mangle)]
 pub extern "C" fn dma330_channel_save(
     kept: &mut KeptChannel,
@@ -281,7 +281,7 @@ pub extern "C" fn dma330_channel_save(
     found(marked.channel.save(out), len, BUFFER_TOO_SMALL)
 }
 
-/// Restores the channel from a save. Its marks are unchanged. Fails if the bytes aren't a save.
+/// Restores the channel from a save. Injected errors are unchanged. Fails if the bytes aren't a save.
 #[unsafe(no_mangle)]
 pub extern "C" fn dma330_channel_restore(kept: &mut KeptChannel, save: &[u8]) -> i32
     ensures { OnChannel (RestoresChannel save.now) kept.old.channel.value result kept.new.channel.value }

@@ -291,8 +291,8 @@ pub extern "C" fn dma330_forgotten(controller: &mut Controller, ch: u8, count: &
     OK
 }
 
-/// Marks a range: bursts that read it (access 0) or write it (1) fail from then on. Fails for any other access, or if the
-/// engine refuses the mark.
+/// Injects errors into a range: bursts that read it (access 0) or write it (1) fail from then on. Fails for any other
+/// access, or if the engine refuses the range.
 #[unsafe(no_mangle)]
 pub extern "C" fn dma330_inject_error(
     controller: &mut Controller,
@@ -311,7 +311,7 @@ pub extern "C" fn dma330_inject_error(
     }
 }
 
-/// Removes all marks.
+/// Removes all injected errors.
 #[unsafe(no_mangle)]
 pub extern "C" fn dma330_uninject_errors(controller: &mut Controller) -> i32
     ensures { Returns controller.old.engine.value (ask_call Call.Unmark) result nothing

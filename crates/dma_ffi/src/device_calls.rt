@@ -257,8 +257,8 @@ fn code_of_restore(answer: Result<(), RestoreFault>) -> i32
     }
 }
 
-/// Restores the device from a save. Fails if the save is of a device of another version or configuration. Fails too if the bytes are the save of no device, and then the device is in its state after a
-/// reset.
+/// Restores the device from a save. Fails if the save is of a device of another version or configuration. Fails too if
+/// the bytes are the save of no device, and then the device is in its state after a reset.
 #[unsafe(no_mangle)]
 pub extern "C" fn dma330_device_restore(kept: &mut KeptDevice, save: &[u8]) -> i32
     ensures { (lent : List Region) → Called (ask_restore save.now) result kept.old.device.value lent

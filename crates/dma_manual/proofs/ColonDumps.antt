@@ -69,7 +69,7 @@ xxd_line_read size sized s bytes a f part start on first is_part fits below =
     let address = address_read Byte s bytes a (omega arith) below on in
     let space = goes_step (form Colon Byte) (at u (Lead 0)) (at u (Lead 1)) bytes 32 (omega arith) refl in
     let groups = xxd_groups size list u bytes part are is_part.some fits in
-    let rest = xxd_rest u found part (32 + 16 / size - length (paired_groups list)) (drop_at bytes part (length bytes) refl) is_part.bytes (omega arith) in
+    let rest = xxd_rest u found part (32 + (15 + size) / size - length (paired_groups list)) (drop_at bytes part (length bytes) refl) is_part.bytes (omega arith) in
     let front = subst (λ (l : List ℕ). Goes (form Colon Byte) (at s Start) bytes l (at u (Lead 1)) bytes) (append_assoc (places 16 8 a) (58 ∷ []) (32 ∷ []))
     (goes_then address space) in
     let whole = goes_then groups rest.goes in
@@ -106,16 +106,15 @@ md_spaces group s bytes v (suc n) fits =
     (goes_then spaces.goes (goes_then (goes_step (form Colon group) (at s (Behind spaces.wide)) (at s (Behind true)) bytes 32 fits refl) wide))
 
 md_rest : (group : Size) (s : Scan) (bytes line : List ℕ) (v n : ℕ) → drop s.before bytes ≡ line → AreBytes line → length bytes ≤ 1048576
-    → ToEnd (form Colon group) (at s (Group false (digits_of group) v)) s bytes (replicate n 32 ++ (codes "    " ++ (characters line ++ 10 ∷ [])))
+    → ToEnd (form Colon group) (at s (Group false (digits_of group) v)) s bytes (replicate n 32 ++ (codes "  " ++ (characters line ++ 10 ∷ [])))
 md_rest group s bytes line v n is are fits =
-    let wide = goes_step (form Colon group) (at s (Behind true)) (at s (Behind true)) bytes 32 fits refl in
     let end = characters_end (form Colon group) refl s bytes line (inl refl) 0 is fits line [] refl refl are in
     subst (λ (l : List ℕ). ToEnd (form Colon group) (at s (Group false (digits_of group) v)) s bytes l)
-    (append_assoc (replicate n 32) (32 ∷ 32 ∷ []) (32 ∷ 32 ∷ (characters line ++ 10 ∷ [])))
-    (then_end (md_spaces group s bytes v n fits) (then_end wide (then_end wide end)))
+    (append_assoc (replicate n 32) (32 ∷ 32 ∷ []) (characters line ++ 10 ∷ []))
+    (then_end (md_spaces group s bytes v n fits) end)
 
-module _ (group : Size) (units : 16 % size_of group ≡ 0) where
-  md_line_read : ReadsLines (form Colon group) (md_line group) (IsPart 16 (size_of group)) (2 ^ 32)
+module _ (gap : ℕ) (group : Size) (units : 16 % size_of group ≡ 0) where
+  md_line_read : ReadsLines (form Colon group) (md_line gap group) (IsPart 16 (size_of group)) (2 ^ 32)
   md_line_read s bytes a f part start on first is_part fits below =
       let u = in_line s (length bytes) a (Lead 0) in
       let found = bytes ++ part in
@@ -127,32 +126,32 @@ module _ (group : Size) (units : 16 % size_of group ≡ 0) where
       parts_are size size [] part (size_some group) (mod_self size) (ap (λ (m : ℕ). m % size) zero_add ∙ is_part.whole) (λ k. omega arith) is_part.bytes in
       let address = address_read group s bytes a (omega arith) below on in
       let groups = groups_read Colon group u list part bytes u (Lead 1) refl (lead_digit group u bytes) are is_part.some fits in
-      let rest = md_rest group u found part groups.v (16 / size * (digits_of group + 1) - length (spaced_groups group list))
+      let rest = md_rest group u found part groups.v (16 / size * (digits_of group + 1) + gap - length (spaced_groups group list))
       (drop_at bytes part (length bytes) refl) is_part.bytes (omega arith) in
       record {
         next = rest.next;
-        goes = subst (λ (v : Scan). Goes (form Colon group) v bytes (md_line group a part) rest.next found) (at_same s Start start)
+        goes = subst (λ (v : Scan). Goes (form Colon group) v bytes (md_line gap group a part) rest.next found) (at_same s Start start)
             (goes_then address (goes_then groups.goes rest.goes));
         start = rest.start;
         first = rest.first ∙ ap (λ (n : ℕ). Some n) first;
       }
 
   md_read : (from : ℕ) (bytes : List ℕ) → IsDumped bytes → length bytes % size_of group ≡ 0 → from + length bytes ≤ 2 ^ 32 → (i : ℕ) → i < length words_first
-      → slice_index_or words_first i (form Colon group) ≡ form Colon group → IsOrUnsure bytes (pasted Dump (md group from bytes))
+      → slice_index_or words_first i (form Colon group) ≡ form Colon group → IsOrUnsure bytes (pasted Dump (md gap group from bytes))
   md_read from bytes dumped whole below i tried at_i =
       let zero_add : 0 + length bytes ≡ length bytes = omega arith in
       let some = dumped.some in
       let most = dumped.most in
       let are = parts_are 16 (size_of group) [] bytes (omega arith) units (ap (λ (m : ℕ). m % size_of group) zero_add ∙ whole) (λ k. omega arith) dumped.each in
-      let all = dump_read (form Colon group) (md_line group) (IsPart 16 (size_of group)) (2 ^ 32) (λ part is. is.some) md_line_read from (begun (form Colon group)) (parts 16 bytes) bytes
+      let all = dump_read (form Colon group) (md_line gap group) (IsPart 16 (size_of group)) (2 ^ 32) (λ part is. is.some) md_line_read from (begun (form Colon group)) (parts 16 bytes) bytes
       refl refl are.all are.is some most below in
-      let text = md group from bytes in
+      let text = md gap group from bytes in
       read_back i (form Colon group) text bytes all.next.is_sure tried
       (ap (λ (x : Form). read_as x text) at_i ∙ read_whole (form Colon group) text bytes all.next all.goes all.start some most)
 
 pub md_is_read_back : MdIsReadBack
-md_is_read_back Byte from bytes dumped whole below = md_read Byte refl from bytes dumped whole below 3 (omega arith) refl
-md_is_read_back Half from bytes dumped whole below = md_read Half refl from bytes dumped whole below 2 (omega arith) refl
-md_is_read_back Word from bytes dumped whole below = md_read Word refl from bytes dumped whole below 0 (omega arith) refl
-md_is_read_back Long from bytes dumped whole below = md_read Long refl from bytes dumped whole below 1 (omega arith) refl
-md_is_read_back _ from bytes dumped whole below = tt
+md_is_read_back gap Byte from bytes dumped whole below = md_read gap Byte refl from bytes dumped whole below 3 (omega arith) refl
+md_is_read_back gap Half from bytes dumped whole below = md_read gap Half refl from bytes dumped whole below 2 (omega arith) refl
+md_is_read_back gap Word from bytes dumped whole below = md_read gap Word refl from bytes dumped whole below 0 (omega arith) refl
+md_is_read_back gap Long from bytes dumped whole below = md_read gap Long refl from bytes dumped whole below 1 (omega arith) refl
+md_is_read_back gap _ from bytes dumped whole below = tt

@@ -123,5 +123,8 @@ module _ (k top : ℕ) (enough : counted 4 1 k ≡ 4) (has : (a : ℕ) → a < t
 pub objdump_is_read_back : ObjdumpIsReadBack
 objdump_is_read_back name bytes from dumped inline others = (
   λ below. whole_read 3 (2 ^ 16) refl (λ a small. hex_places 3 a (omega arith) (omega arith)) name bytes from dumped inline others below,
+  λ below. whole_read 4 (2 ^ 20) refl (λ a small. hex_places 4 a (omega arith) (omega arith)) name bytes from dumped inline others below,
+  λ below. whole_read 5 (2 ^ 24) refl (λ a small. hex_places 5 a (omega arith) (omega arith)) name bytes from dumped inline others below,
+  λ below. whole_read 6 (2 ^ 28) refl (λ a small. hex_places 6 a (omega arith) (omega arith)) name bytes from dumped inline others below,
   λ below. whole_read 7 (2 ^ 32) refl (λ a small. hex_places 7 a (omega arith) (omega arith)) name bytes from dumped inline others below,
 )

@@ -104,23 +104,23 @@ paired_groups list = flat_map (λ part. pairs part ++ 32 ∷ []) list
 abbrev pub xxd_line : ℕ → ℕ → List ℕ → List ℕ
 xxd_line size at line =
     let groups = paired_groups (parts size line) in
-    (places 16 8 at ++ codes ": ") ++ (groups ++ (padding (32 + 16 / size) groups ++ (32 ∷ (characters line ++ 10 ∷ []))))
+    (places 16 8 at ++ codes ": ") ++ (groups ++ (padding (32 + (15 + size) / size) groups ++ (32 ∷ (characters line ++ 10 ∷ []))))
 
--- What `xxd -g` prints, for a size of groups that divides 16; it is 2 by default.
+-- What `xxd -g` prints, for a size of groups that isn't 0; it is 2 by default.
 abbrev pub xxd : ℕ → List ℕ → List ℕ
 xxd size bytes = lines_from (xxd_line size) 0 (parts 16 bytes)
 
 -- A line of U-Boot's `md` (`print_buffer` in lib/display_options.c): the address and a colon, 16 bytes in groups, and
--- the bytes as characters after four spaces.
-abbrev pub md_line : Group → ℕ → List ℕ → List ℕ
-md_line group at line =
+-- the bytes as characters. Two spaces and `gap` more are before these: U-Boot 2023.01 has no more, and old ones have two.
+abbrev pub md_line : ℕ → Group → ℕ → List ℕ → List ℕ
+md_line gap group at line =
     let groups = spaced_groups group (parts (size_of group) line) in
     (places 16 8 at ++ 58 ∷ [])
-    ++ (groups ++ (padding (16 / size_of group * (digits_of group + 1)) groups ++ (codes "    " ++ (characters line ++ 10 ∷ []))))
+    ++ (groups ++ (padding (16 / size_of group * (digits_of group + 1) + gap) groups ++ (codes "  " ++ (characters line ++ 10 ∷ []))))
 
 -- What `md` prints of bytes from an address on: `md.b`, `md.w`, `md.l`, which is the default, or `md.q`.
-abbrev pub md : Group → ℕ → List ℕ → List ℕ
-md group at bytes = lines_from (md_line group) at (parts 16 bytes)
+abbrev pub md : ℕ → Group → ℕ → List ℕ → List ℕ
+md gap group at bytes = lines_from (md_line gap group) at (parts 16 bytes)
 
 -- a number in hexadecimal digits without a 0 in front, if it has at most k + 1 of them: printf's `%x`
 unfoldable pub short_places : ℕ → ℕ → List ℕ

@@ -40,11 +40,11 @@ abbrev pub IfHex : Group → Type 0 → Type 0
 IfHex Octals claim = Unit {0}
 IfHex group claim = claim
 
--- What `md` prints of whole groups below 2 ^ 32 is read back.
+-- What `md` prints of whole groups below 2 ^ 32 is read back, with two spaces before the characters or more.
 abbrev pub MdIsReadBack : Type 0
 MdIsReadBack =
-    (group : Group) (at : ℕ) (bytes : List ℕ) → IsDumped bytes → length bytes % size_of group ≡ 0 → at + length bytes ≤ 2 ^ 32
-    → IfHex group (IsOrUnsure bytes (pasted Dump (md group at bytes)))
+    (gap : ℕ) (group : Group) (at : ℕ) (bytes : List ℕ) → IsDumped bytes → length bytes % size_of group ≡ 0 → at + length bytes ≤ 2 ^ 32
+    → IfHex group (IsOrUnsure bytes (pasted Dump (md gap group at bytes)))
 
 -- A symbol's name has no line feed and no colon.
 abbrev pub IsSymbol : Option (List ℕ) → Type 0
@@ -58,9 +58,12 @@ GdbIsReadBack =
     → length bytes % size_of group ≡ 0 → at + length bytes ≤ 2 ^ 64 → IfHex group (IsOrUnsure bytes (pasted Dump (gdb_x group symbol at bytes)))
 
 -- What `objdump -s` prints of a section is read back, unless a line has only spaces: such a line is refused. Its
--- addresses have four or eight digits, and its name has no line feed.
+-- addresses have four to eight digits, and its name has no line feed.
 abbrev pub ObjdumpIsReadBack : Type 0
 ObjdumpIsReadBack =
     (name bytes : List ℕ) (at : ℕ) → IsDumped bytes → list_any (λ b. b == 10) name ≡ false → list_any is_all_spaces (parts 16 bytes) ≡ false
     → (at + length bytes ≤ 2 ^ 16 → IsOrUnsure bytes (pasted Dump (objdump 4 name at bytes)))
+    × (at + length bytes ≤ 2 ^ 20 → IsOrUnsure bytes (pasted Dump (objdump 5 name at bytes)))
+    × (at + length bytes ≤ 2 ^ 24 → IsOrUnsure bytes (pasted Dump (objdump 6 name at bytes)))
+    × (at + length bytes ≤ 2 ^ 28 → IsOrUnsure bytes (pasted Dump (objdump 7 name at bytes)))
     × (at + length bytes ≤ 2 ^ 32 → IsOrUnsure bytes (pasted Dump (objdump 8 name at bytes)))
