@@ -31,8 +31,9 @@ head of dma330.h: one call at a time, memory that stays where it is, no two regi
 yours: each thread has 32 KiB of stack, and while a call runs, nobody else writes what it reads, or reads what it
 writes. Python's other threads run during a call.
 
-The library is the file that DMA330_SO names, else libdma330.so.1 beside the module (as in a wheel), in ../lib or
-../../../lib seen from there, or where the loader finds it. It must have this version or a later one of the same MAJOR.
+The library is the file that DMA330_SO names, else libdma330.so.1 beside the module (as in a wheel), in ../lib, ../../lib
+or ../../../lib seen from there (as in a release or an install), or where the loader finds it. It must have this version
+or a later one of the same MAJOR.
 """
 from . import errors, values
 from ._library import VERSION as __version__

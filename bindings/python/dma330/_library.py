@@ -31,7 +31,7 @@ def _path() -> str:
     """Returns the library's path, or its name for the loader to search."""
     named = os.environ.get("DMA330_SO")
     here = os.path.dirname(os.path.realpath(__file__))
-    files = [os.path.join(here, up, "libdma330.so.1") for up in ("", "../lib", "../../../lib")]
+    files = [os.path.join(here, up, "libdma330.so.1") for up in ("", "../lib", "../../lib", "../../../lib")]
     return named or next(filter(os.path.exists, files), "libdma330.so.1")
 
 
