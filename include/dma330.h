@@ -189,9 +189,10 @@ typedef struct dma330_device {
 typedef struct dma330_device_config {
     uint32_t channels;  /* 1 to 8 */
     uint32_t events;    /* 1 to 32, each an event or an interrupt, as INTEN says */
-    uint32_t nonsecure; /* 0 if the manager is in the secure state after a reset */
+    uint32_t nonsecure; /* 0 if the manager is in the secure state after a reset, any other number if it isn't */
     uint32_t bus;       /* the width of the data bus in bits: 32, 64 or 128; a wider beat is an invalid operand */
-    uint32_t lines;     /* of the buffer that CRD shows, 1 to 1024; each channel has 256 bytes for itself */
+    uint32_t lines;     /* of the buffer that CRD shows, 1 to 1024, also a number that no chip has; each channel has 256
+                         * bytes for itself */
     uint32_t revision;  /* 0 for r0p0, 1 for r1p0, 2 for r1p1, 3 for r1p2; Linux uses barriers only for r0p0 */
 } dma330_device_config;
 
@@ -201,7 +202,7 @@ typedef struct dma330_device_turn {
                              * elsewhere has changed. Its len is 0 if they wrote nothing. It may end at 2^32, so add
                              * addr and len in 64 bits */
     uint64_t taken;         /* the number of steps, the last one included, whatever it did: at most `most`, and one more
-                             * after the DMASEV of an interrupt */
+                             * after the DMASEV of an interrupt. A failure by lockup_err is no step */
     uint32_t lines_changed; /* 1 if a line of irq[31:0], or irq_abort, has changed, else 0 */
     uint32_t can_step;      /* what dma330_device_can_step writes now */
 } dma330_device_turn;
@@ -331,8 +332,9 @@ enum dma330_known {
 enum dma330_event_kind { DMA330_WAITS = 0, DMA330_SIGNALS = 1 };
 
 /* Why a call doesn't explain a program; docs/EXPLANATIONS.md has an example and a remedy for each cause. Causes 1 to 5
- * have the numbers of enum dma330_fault: in every memory the instruction fails so. The numbers 6 and 7 are missing
- * here, since only a memory makes an instruction fail so. From 9 on, a store may be a DMASTZ. While bytes are in the
+ * have the numbers of enum dma330_fault: in every memory the instruction fails so. The faults of data, 6 and 7, are no
+ * causes: whether a load or a store fails so depends on the memory. Only one that goes beyond the last address fails so
+ * in every memory, and that has causes of its own, 8 and 9. From 9 on, a store may be a DMASTZ. While bytes are in the
  * buffer, a DMAMOV DAR uses the old DAR: a device compares it with the new one, as a chip does, to find whether it
  * drops the bytes. With `bus` 0 nothing is dropped or compared. */
 enum dma330_cause {
@@ -775,9 +777,10 @@ int32_t dma330_channel_load_from(dma330_channel *channel, const dma330_region *r
                                  uint32_t addr) DMA330_NO_NULLS;
 
 /* Takes at most `most` steps over the regions and the flags of events 0 to 31, which are the bits of `*flags`, and
- * reports what they did. The call ends early in four cases:
+ * reports what they did. The call ends early in five cases:
  * - the program ends, waits or fails;
  * - it has executed a DMASEV, so that you can raise an interrupt;
+ * - it has executed 4294967295 instructions since the load: each further call reports NO_STEP;
  * - its next store neither overlaps nor touches the range written so far, since a call reports one range without gaps;
  * - its next store would make this range 2^32 bytes long, which `written.len` can't hold.
  *
@@ -850,17 +853,20 @@ int32_t dma330_device_reset(dma330_device *device) DMA330_NO_NULLS;
  * register, reads as 0. No read changes the device. docs/DEVICES.md lists the registers. */
 int32_t dma330_device_read(dma330_device *device, uint32_t offset, uint32_t *value) DMA330_NO_NULLS;
 
-/* Writes a register for the guest. A write to an offset without a register that can be written is ignored. A write of 0
- * to DBGCMD (offset 0xD04) executes the instruction in DBGINST0 and DBGINST1. If that is a DMAGO, it reads the
- * channel's program from the regions, as dma330_channel_load_from does; no other write reads them. No write changes a
- * byte of them. Codes: BAD_REGIONS, which only a write to DBGCMD tests. */
+/* Writes a register for the guest. A write to an offset without a register that can be written is ignored. A write to
+ * DBGCMD (offset 0xD04) executes the instruction in DBGINST0 and DBGINST1 if bits 1:0 of the value are 0, for example
+ * if the value is 0 or 4. If that is a DMAGO, it reads the channel's program from the regions, as
+ * dma330_channel_load_from does; no other write reads them. No write changes a byte of them. Codes: BAD_REGIONS, which
+ * only a write to DBGCMD tests. */
 int32_t dma330_device_write(dma330_device *device, uint32_t offset, uint32_t value, const dma330_region *regions,
                             size_t region_count) DMA330_NO_NULLS;
 
 /* Lets a channel take a turn, which is at most `most` steps, and reports what they did. A channel that is stopped or
- * faulting, or that the device doesn't have, does nothing. The turn ends early in four cases:
+ * faulting, or that the device doesn't have, does nothing. The turn ends early in five cases:
  * - the program ends, waits or fails;
  * - it has executed a DMASEV, so that you can set the interrupt lines;
+ * - it has executed 4294967295 instructions since its DMAGO: instead of a further step it fails, by lockup_err, which
+ *   `taken` doesn't count, so the turn that finds this may report that it took 0 steps;
  * - its next store neither overlaps nor touches the range written so far, since a turn reports one range without gaps;
  * - its next store would make this range 2^32 bytes long, which `written.len` can't hold.
  *
@@ -885,8 +891,9 @@ int32_t dma330_device_step_rows(dma330_device *device, uint8_t channel, uint32_t
  * that the channel has. Ask right after the DMAGO, before the channel's first turn: a DMAGO keeps the registers, so
  * these are then those with which the program begins. The call always explains the program from its first instruction
  * on. So after a turn it still answers the same if dma330_explain explains the program with no register known; of any
- * other program the answer may then be wrong. After a restore nothing is promised of the channel's turns, since a save
- * may have any registers.
+ * other program the answer may then be wrong. What it has answered right after the DMAGO remains true of the channel's
+ * turns, also after a restore of what dma330_device_save has written since then. So keep this answer over a migration,
+ * and don't ask again. Of a save that no device wrote nothing is promised, since it may have any registers.
  *
  * A channel has a program from the DMAGO until the DMAEND or a DMAKILL, also while it waits or is faulting. The
  * explanation doesn't depend on the number of events: a device fails at an instruction with an event that it doesn't
