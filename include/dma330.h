@@ -210,7 +210,8 @@ typedef struct dma330_device_turn {
 /* What dma330_device_step_rows did. No byte outside the ranges of its turns has changed. */
 typedef struct dma330_device_rows {
     dma330_device_turn turn; /* `written` is what the first turn wrote, `taken` the number of steps of each turn;
-                              * `lines_changed` and `can_step` are of all turns together */
+                              * `lines_changed` is 1 if the turns together have changed a line, and `can_step` is what
+                              * holds after the last of them */
     uint32_t pitch;          /* turn k, counted from 0, wrote as many bytes from turn.written.addr + k * pitch on */
     uint32_t count;          /* the number of turns, at least 1 */
     uint32_t steps;          /* each turn is what dma330_device_step does with this `most` */
