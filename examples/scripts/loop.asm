@@ -1,4 +1,4 @@
-# Copies a byte 256 times.
+# For dmasim asm: copies a byte 256 times.
 DMALP 1 256
 DMALD
 DMAST
