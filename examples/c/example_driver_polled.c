@@ -19,7 +19,8 @@ static struct { uint32_t src, dst, len, deadline; bool runs; } job;
 
 /* ---- the program ---- */
 
-/* Appends instructions to a program. */
+/* Appends instructions to a program. (Each macro of dma330_program.h is a list of an instruction's bytes, with commas
+ * between them, for the initializer of an array.) */
 #define PUT(at, ...) \
     do { const uint8_t put[] = {__VA_ARGS__}; memcpy(at, put, sizeof put); at += sizeof put; } while (0)
 
