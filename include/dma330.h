@@ -41,7 +41,7 @@
  * output, except where its comment says so. The comment of enum dma330_code says what to do about each code.
  *
  * Addresses and lengths of segments have 32 bits, channels and events 8: test a guest's number before you make it
- * narrower. A list of more than 64 segments is refused; you may cut it to 65, which is refused too. */
+ * narrower. A list of more than 64 segments is refused, so of a longer list you need to pass only the first 65. */
 #ifndef DMA330_H
 #define DMA330_H
 
@@ -214,7 +214,7 @@ typedef struct dma330_device_rows {
                               * holds after the last of them */
     uint32_t pitch;          /* turn k, counted from 0, wrote as many bytes from turn.written.addr + k * pitch on */
     uint32_t count;          /* the number of turns, at least 1 */
-    uint32_t steps;          /* each turn is what dma330_device_step does with this `most` */
+    uint32_t steps;          /* the bound of each turn, which is what dma330_device_step does with this as its `most` */
 } dma330_device_rows;
 
 /* How a program ended that dma330_run_program ran. A member is 0 unless its comment names the end. */
@@ -856,9 +856,10 @@ int32_t dma330_device_read(dma330_device *device, uint32_t offset, uint32_t *val
 
 /* Writes a register for the guest. A write to an offset without a register that can be written is ignored. A write to
  * DBGCMD (offset 0xD04) executes the instruction in DBGINST0 and DBGINST1 if bits 1:0 of the value are 0, for example
- * if the value is 0 or 4. If that is a DMAGO, it reads the channel's program from the regions, as
- * dma330_channel_load_from does; no other write reads them. No write changes a byte of them. Codes: BAD_REGIONS, which
- * only a write to DBGCMD tests. */
+ * if the value is 0 or 4. If that is a DMAGO, it reads the channel's program from the regions, up to the first address
+ * that no region has, 8192 bytes at most. If no region has the address at which the program begins, there are no bytes,
+ * and the channel's first step fails by instr_fetch_err. No other write reads the regions, and no write changes a byte
+ * of them. Codes: BAD_REGIONS, which only a write to DBGCMD tests. */
 int32_t dma330_device_write(dma330_device *device, uint32_t offset, uint32_t value, const dma330_region *regions,
                             size_t region_count) DMA330_NO_NULLS;
 
@@ -881,10 +882,14 @@ int32_t dma330_device_step(dma330_device *device, uint8_t channel, uint32_t most
 /* Lets a channel take several turns, one for each row, while it copies the rows of a rectangle. By dma330_device_step
  * each row takes a call, since the rows have gaps between them. The rows are found in a loop that copies each by pairs
  * of DMALD and DMAST with bursts of the same length, and then has DMAADDH SAR or not, and DMAADDH DAR, by multiples of
- * the beats; all rows lie after their sources, or all before them. Elsewhere the call takes one turn, which may end
- * early where rows begin: if no row comes next, the call first looks for one in the next 300 instructions at most. The
- * result is that of `rows->count` calls of dma330_device_step with a `most` of `rows->steps`; `count` times `steps` is
- * at most `most`. Together they took `count` times `turn.taken` steps. Codes: BAD_REGIONS. */
+ * the beats; all rows lie after their sources, or all before them.
+ *
+ * Elsewhere the call takes one turn, so it may always be made in place of dma330_device_step. Before this turn it looks
+ * for rows in at most the next 300 instructions, or `most` if that is less. It doesn't execute these, so they aren't
+ * steps. If it finds rows, `rows->steps` is less than `most`, and the turn ends where they begin, or earlier.
+ *
+ * The result is that of `rows->count` calls of dma330_device_step with a `most` of `rows->steps`; `count` times `steps`
+ * is at most `most`. Together they took `count` times `turn.taken` steps. Codes: BAD_REGIONS. */
 int32_t dma330_device_step_rows(dma330_device *device, uint8_t channel, uint32_t most, const dma330_region *regions,
                                 size_t region_count, dma330_device_rows *rows) DMA330_NO_NULLS;
 
