@@ -159,8 +159,8 @@ typedef struct dma330_channel_report {
     uint32_t last;  /* what the last one did: enum dma330_last_step */
     uint32_t event; /* of DMA330_SIGNALLED: whose flag it set; of DMA330_WAITING: the one it waits for */
     uint32_t fault; /* of DMA330_FAULT: enum dma330_fault */
-    uint32_t pc;    /* the offset of the next instruction: of WAITING and FAULT that of the one that waits or failed, of
-                     * ENDED that of the DMAEND */
+    uint32_t pc;    /* the offset of the next instruction; of DMA330_WAITING and DMA330_FAULT, of the one that waits or
+                     * has failed; of DMA330_ENDED, of the DMAEND */
     dma330_segment written; /* the range that the steps wrote: each byte in it, some perhaps with the value that it had;
                              * no other byte of the regions has changed. Its len is 0 if they wrote nothing. It may end
                              * at 2^32, so add addr and len in 64 bits */
@@ -191,8 +191,10 @@ typedef struct dma330_device_config {
     uint32_t events;    /* 1 to 32, each an event or an interrupt, as INTEN says */
     uint32_t nonsecure; /* 0 if the manager is in the secure state after a reset, any other number if it isn't */
     uint32_t bus;       /* the width of the data bus in bits: 32, 64 or 128; a wider beat is an invalid operand */
-    uint32_t lines;     /* of the buffer that CRD shows, 1 to 1024, also a number that no chip has; each channel has 256
-                         * bytes for itself */
+    uint32_t lines;     /* the size of the chip's buffer between loads and stores, in lines as wide as the bus: 1 to
+                         * 1024, also a number that no chip has. It only shows in CRD, by which Linux's driver chooses
+                         * the length of its bursts: take the number of the chip that the guest expects, or 128 for 8
+                         * channels, as docs/DEVICES.md does. Whatever it is, each channel has 256 bytes for itself */
     uint32_t revision;  /* 0 for r0p0, 1 for r1p0, 2 for r1p1, 3 for r1p2; Linux uses barriers only for r0p0 */
 } dma330_device_config;
 
@@ -207,14 +209,16 @@ typedef struct dma330_device_turn {
     uint32_t can_step;      /* what dma330_device_can_step writes now */
 } dma330_device_turn;
 
-/* What dma330_device_step_rows did. No byte outside the ranges of its turns has changed. */
+/* What dma330_device_step_rows did: one turn or several. No byte outside the ranges of its turns has changed. */
 typedef struct dma330_device_rows {
     dma330_device_turn turn; /* `written` is what the first turn wrote, `taken` the number of steps of each turn;
                               * `lines_changed` is 1 if the turns together have changed a line, and `can_step` is what
                               * holds after the last of them */
-    uint32_t pitch;          /* turn k, counted from 0, wrote as many bytes from turn.written.addr + k * pitch on */
+    uint32_t pitch;          /* the distance of the turns' ranges: turn k, counted from 0, wrote as many bytes as the
+                              * first, from turn.written.addr + k * pitch on */
     uint32_t count;          /* the number of turns, at least 1 */
-    uint32_t steps;          /* the bound of each turn, which is what dma330_device_step does with this as its `most` */
+    uint32_t steps;          /* the most steps of each turn: one turn is what a call of dma330_device_step does if its
+                              * `most` is this number */
 } dma330_device_rows;
 
 /* How a program ended that dma330_run_program ran. A member is 0 unless its comment names the end. */
@@ -238,7 +242,7 @@ typedef struct dma330_repeated {
 /* The registers with which a program begins, as far as they are known. The others may be anything: a device keeps its
  * registers over a DMAGO, so another program may have left anything there. */
 typedef struct dma330_start {
-    uint32_t known; /* those of the members below that are known: a sum of enum dma330_known. The others aren't read */
+    uint32_t known; /* which of the members below are known: a sum of enum dma330_known. The others aren't read */
     uint32_t sar;
     uint32_t dar;
     uint32_t ccr;
@@ -250,8 +254,8 @@ typedef struct dma330_start {
 typedef struct dma330_event {
     uint32_t kind;    /* enum dma330_event_kind */
     uint32_t event;
-    uint64_t copied;  /* the number of bytes that the program has copied before it */
-    uint64_t cleared; /* and of those that it has set to 0 */
+    uint64_t copied;  /* the number of bytes that the program has copied before this instruction */
+    uint64_t cleared; /* the number of bytes that it has set to 0 before */
 } dma330_event;
 
 /* What a program copies and sets to 0, or why it isn't explained. */
@@ -262,16 +266,17 @@ typedef struct dma330_explanation {
     size_t events_len;
     uint64_t copied;   /* the numbers of bytes that it copies, and sets to 0; 0 if there is a cause */
     uint64_t cleared;
-    uint32_t steps;    /* the number of instructions executed, DMAEND included; for a cause, of those before `pc` */
-    uint32_t pc;       /* for a cause the offset of the instruction that has it, else 0 */
+    uint32_t steps;    /* the number of instructions that are executed, DMAEND included; if there is a cause, of those
+                        * that are executed before the instruction that has it */
+    uint32_t pc;       /* if there is a cause, the offset of the instruction that has it, else 0 */
     uint32_t cause;    /* enum dma330_cause */
     uint32_t addr;     /* for STORES_TWICE the lowest address that is stored twice, for STORES_SOURCE the lowest that is
                         * read and stored, else 0 */
 } dma330_explanation;
 
 /* What the last of some steps did: the member `last` of a dma330_report and of a dma330_channel_report. A halted
- * channel of a controller reports DMA330_HALTED, paused or not; a paused one reports DMA330_PAUSED, whatever its next
- * step is. */
+ * channel of a controller reports DMA330_HALTED, even if it is paused as well. One that is only paused reports
+ * DMA330_PAUSED, whatever it would do otherwise. */
 enum dma330_last_step {
     DMA330_NO_STEP = 0,   /* none was taken: `most` was 0, or a dma330_channel had executed 4294967295 instructions */
     DMA330_MOVED = 1,     /* one instruction was executed */
@@ -335,9 +340,11 @@ enum dma330_event_kind { DMA330_WAITS = 0, DMA330_SIGNALS = 1 };
 /* Why a call doesn't explain a program; docs/EXPLANATIONS.md has an example and a remedy for each cause. Causes 1 to 5
  * have the numbers of enum dma330_fault: in every memory the instruction fails so. The faults of data, 6 and 7, are no
  * causes: whether a load or a store fails so depends on the memory. Only one that goes beyond the last address fails so
- * in every memory, and that has causes of its own, 8 and 9. From 9 on, a store may be a DMASTZ. While bytes are in the
- * buffer, a DMAMOV DAR uses the old DAR: a device compares it with the new one, as a chip does, to find whether it
- * drops the bytes. With `bus` 0 nothing is dropped or compared. */
+ * in every memory, and that has causes of its own, 8 and 9. From cause 9 on, "a store" is a DMAST or a DMASTZ.
+ *
+ * One case of UNSET_DAR is easily overlooked: while bytes are in the buffer, a DMAMOV DAR uses the old DAR. A device
+ * compares it with the new one, as a chip does, to find whether it drops the bytes. With `bus` 0 nothing is dropped or
+ * compared. */
 enum dma330_cause {
     DMA330_CAUSE_NONE = 0,
     DMA330_CAUSE_UNDEF_INSTR = 1,
@@ -407,7 +414,7 @@ enum dma330_ftrd {
 /* What a call returns. What to do about a refusal:
  * - Fix your program: NOT_OPEN, ALREADY_OPEN, BAD_CHANNELS, SIZE_OUT_OF_RANGE, BAD_ACCESS, BUFFER_TOO_SMALL,
  *   NO_PROGRAM, BAD_REGIONS, BAD_CONFIG. (If a call explains a guest's program, BUFFER_TOO_SMALL and NO_PROGRAM are no
- *   errors.)
+ *   errors: the guest's program has more items than your lists have room, or the channel has no program.)
  * - Report it to the guest, or to whoever wrote the program or the text: EMPTY_LIST to SOURCE_MEETS_DESTINATION,
  *   BAD_EVENT, NO_CHANNEL, OUT_OF_MEMORY_RANGE, BAD_RANGE, PROGRAM_TOO_LONG, BAD_MNEMONIC to BAD_FIELD, UNEXPLAINED.
  * - Step the channel in `*conflict`, handle the report, and try again: BUSY, RUNNING. If the channel is paused, resume
@@ -601,8 +608,9 @@ DMA330_INLINE const char *dma330_ftrd_name(uint32_t bit)
 
 /* Opens a controller with a memory of `size` zeros and with `channels` channels. It takes 2 KiB, 9,200 bytes for each
  * channel, and 24 bytes for each 4 MiB of the memory. When a page of 4,096 bytes is first written, or a transfer to it
- * starts, 16,384 bytes are allocated for it and its three neighbours; with the first page in 4 MiB another 6 KiB, and a
- * byte or two for each page below it. Codes: ALREADY_OPEN, BAD_CHANNELS, SIZE_OUT_OF_RANGE, NO_MEMORY. */
+ * starts, 16,384 bytes are allocated for it and its three neighbours. The first page in 4 MiB takes another 6 KiB. And
+ * each page from address 0 up to the highest of these takes a byte or two. Codes: ALREADY_OPEN, BAD_CHANNELS,
+ * SIZE_OUT_OF_RANGE, NO_MEMORY. */
 int32_t dma330_open(dma330_controller *controller, uint32_t size, uint8_t channels) DMA330_NO_NULLS;
 
 /* Frees what an open controller holds; it may be opened again. Does nothing if it isn't open. */
@@ -659,9 +667,9 @@ int32_t dma330_resume(dma330_controller *controller, uint8_t channel) DMA330_NO_
 int32_t dma330_terminate(dma330_controller *controller, uint8_t channel, uint32_t *count) DMA330_NO_NULLS;
 
 /* Lets a channel take up to `most` steps, and reports what the last one did. It ends early after a step that is neither
- * DMA330_STARTED nor DMA330_MOVED. If a later step than the first is refused, the call returns DMA330_OK with a report
- * of the steps before it, and the next call tries that step again. Codes, of the first step: NO_CHANNEL, STEPS_SPENT,
- * NO_MEMORY. With `most` 0 the only code is NOT_OPEN. */
+ * DMA330_STARTED nor DMA330_MOVED. Only if the first step is refused, the call is, too. At a refusal of a later step it
+ * returns DMA330_OK with a report of the steps before, and the next call tries that step again. Codes, of the first
+ * step: NO_CHANNEL, STEPS_SPENT, NO_MEMORY. With `most` 0 the only code is NOT_OPEN. */
 int32_t dma330_step(dma330_controller *controller, uint8_t channel, uint32_t most,
                     dma330_report *report) DMA330_NO_NULLS;
 
@@ -687,8 +695,8 @@ int32_t dma330_unfinished(dma330_controller *controller, uint8_t channel, uint32
  * that doesn't exist. */
 int32_t dma330_forgotten(dma330_controller *controller, uint8_t channel, uint32_t *count) DMA330_NO_NULLS;
 
-/* Writes the number of steps that moved or finished a transfer, on all channels since the controller was opened. Steps
- * that started a transfer or did nothing count in `taken` alone. */
+/* Writes the number of steps that moved or finished a transfer, on all channels since the controller was opened. The
+ * member `taken` of reports counts more: also the steps that started a transfer, and those that did nothing. */
 int32_t dma330_steps(dma330_controller *controller, uint64_t *steps) DMA330_NO_NULLS;
 
 /* Writes the number of entries of the history: one for each accepted write, read, submit, issue, terminate, raise and
@@ -721,31 +729,33 @@ int32_t dma330_uninject_errors(dma330_controller *controller) DMA330_NO_NULLS;
 int32_t dma330_raise(dma330_controller *controller, uint8_t event) DMA330_NO_NULLS;
 
 /* Drops the history and the results of finished transfers, and frees their memory. Nothing else changes: transfers that
- * haven't started stay. It first copies the chunks of pages in use: the controller then holds them twice, and three
- * times during a later checkpoint. Codes: RUNNING if a transfer runs (`*conflict` then names it), NO_MEMORY. A transfer
- * runs also while it is paused or waits for an event: resume the channel, raise the event or terminate. If channels are
- * always busy, don't step idle ones (dma330_running returns NOT_RUNNING) until the others finish. */
+ * haven't started stay. It first copies all pages that dma330_open says are allocated: the controller then holds them
+ * twice, and three times during a later checkpoint. Codes: RUNNING if a transfer runs (`*conflict` then names it),
+ * NO_MEMORY. A transfer runs also while it is paused or waits for an event: resume the channel, raise the event or
+ * terminate. If channels are always busy, don't step idle ones (dma330_running returns NOT_RUNNING) until the others
+ * finish. */
 int32_t dma330_checkpoint(dma330_controller *controller, dma330_conflict *conflict) DMA330_NO_NULLS;
 
 /* ---- a channel over the caller's memory ----
  *
  * A channel needs no controller. Its program reads and writes your memory in place. You lend this memory for the time
- * of a call, as regions: an array that rises by address, in which no `bytes` is null and no two overlap (lend RAM that
- * the guest sees at two addresses at one of them). Between calls memory and flags are yours to read and to write.
- * Several channels may step in turn over the same memory and flags, each call over the regions that it is lent. An open
- * channel has room for the longest program, so load_program, load_from and restore allocate nothing.
+ * of a call, as regions: an array that rises by address, in which no `bytes` is null and no two overlap. (Lend RAM that
+ * the guest sees at two addresses at one of them.) The flags of its events are the bits of a number of yours, to which
+ * you pass a pointer. Between calls memory and flags are yours to read and to write. Several channels may step in turn
+ * over the same memory and flags, each call over the regions that it is lent. An open channel has room for the longest
+ * program, so load_program, load_from and restore allocate nothing.
  *
- * This is proved for a transfer that load_copy or load_fill loads, or that load_program or load_from loads from bytes
- * that begin with its program:
+ * This is proved for a transfer whose program load_copy or load_fill has made and loaded, and also if load_program or
+ * load_from has loaded bytes that begin with such a program:
  * - Until its program ends, `report->written` has only destinations of the transfer, whatever others write.
  * - Suppose that since the load each call on the channel was lent regions with the transfer's ranges, none of its
  *   destinations read-only, and nobody else wrote there. Then the first `stored` bytes of the destinations, as
  *   dma330_channel_registers counts them, are the sources' bytes at the load, and the rest of these ranges is
  *   unchanged, also after a stop or a fault. After SIGNALLED or ENDED all bytes are copied. A call waits only for the
  *   transfer's event, and fails only at an injected error in these ranges.
- * - Another channel may be loaded at any time, and stepped over regions of its own. It doesn't write there if no
- *   `report->written` of it since the load has an address of these ranges, or if it runs the program of another
- *   transfer whose destinations lie elsewhere. */
+ * - Another channel may be loaded at any time, and stepped over regions of its own. In two cases it is known that it
+ *   doesn't write there: if no `report->written` of it since the load has an address of these ranges, or if it runs the
+ *   program of another transfer whose destinations lie elsewhere. */
 
 /* Opens a channel without a program and without injected errors, with room for the longest program. Codes:
  * ALREADY_OPEN, NO_MEMORY. */
@@ -770,10 +780,10 @@ int32_t dma330_channel_load_fill(dma330_channel *channel, uint32_t src, const dm
  * dma330_channel_load_copy. Codes: PROGRAM_TOO_LONG. */
 int32_t dma330_channel_load_program(dma330_channel *channel, const uint8_t *program, size_t len) DMA330_NO_NULLS;
 
-/* Loads a program from the regions into a channel, where it begins at address `addr`. The rest is as for
- * dma330_channel_load_copy. The program has the bytes from there up to the first address that no region has, 8192 at
- * most, so a program may cross from one region into one that touches it. If no region has `addr`, there are no bytes,
- * and the first step fails with DMA330_INSTR_FETCH_ERR. Codes: BAD_REGIONS. */
+/* Loads a program from address `addr` of the regions into a channel. The rest is as for dma330_channel_load_copy. The
+ * program has the bytes from there up to the first address that no region has, 8192 at most, so a program may cross
+ * from one region into one that touches it. If no region has `addr`, there are no bytes, and the first step fails with
+ * DMA330_INSTR_FETCH_ERR. Codes: BAD_REGIONS. */
 int32_t dma330_channel_load_from(dma330_channel *channel, const dma330_region *regions, size_t region_count,
                                  uint32_t addr) DMA330_NO_NULLS;
 
@@ -788,8 +798,9 @@ int32_t dma330_channel_load_from(dma330_channel *channel, const dma330_region *r
  * In the last two cases the report says MOVED, and the next call begins with that store.
  *
  * Loads outside the regions fail with DMA330_DATA_READ_ERR, stores outside them or to a read-only region with
- * DMA330_DATA_WRITE_ERR. A burst may cross from one region into one that touches it. After a burst to address
- * 4294967295 SAR or DAR is 0; a burst that goes beyond it fails. The array of regions isn't written, only their bytes.
+ * DMA330_DATA_WRITE_ERR. A burst may cross from one region into one that touches it. After a burst that ends with
+ * address 4294967295, SAR or DAR is 0; a burst that goes beyond this address fails. The call writes only bytes of
+ * regions, never the array that lists them.
  * A channel that has failed isn't stopped: the next step tries the instruction again, so stop stepping it. Codes:
  * BAD_REGIONS, NO_PROGRAM. */
 int32_t dma330_channel_step(dma330_channel *channel, const dma330_region *regions, size_t region_count, uint32_t *flags,
@@ -823,9 +834,10 @@ int32_t dma330_channel_uninject_errors(dma330_channel *channel) DMA330_NO_NULLS;
 int32_t dma330_channel_save(dma330_channel *channel, uint8_t *out, size_t room, size_t *len) DMA330_NO_NULLS;
 
 /* Makes the channel the one that was saved. A save holds no injected errors; those of this channel stay. Accepts bytes
- * exactly if they have the layout above, with these values, with a CCR that DMAMOV accepts, an offset in the program or
- * at its end (any number if none is loaded), at most 256 bytes stored for each instruction, and the right lengths and
- * checksum. It doesn't test whether a program that is marked as compiled is one. Codes: BAD_SAVE. */
+ * exactly if they have the layout above and these values, and if besides: DMAMOV accepts the CCR; the offset of the
+ * next instruction is in the program or at its end (any number if none is loaded); at most 256 bytes were stored for
+ * each instruction; lengths and checksum are right. It doesn't test whether a program that is marked as compiled is
+ * one. Codes: BAD_SAVE. */
 int32_t dma330_channel_restore(dma330_channel *channel, const uint8_t *save, size_t len) DMA330_NO_NULLS;
 
 /* ---- a device over the caller's memory ----
@@ -867,39 +879,44 @@ int32_t dma330_device_write(dma330_device *device, uint32_t offset, uint32_t val
  * faulting, or that the device doesn't have, does nothing. The turn ends early in five cases:
  * - the program ends, waits or fails;
  * - it has executed a DMASEV, so that you can set the interrupt lines;
- * - it has executed 4294967295 instructions since its DMAGO: instead of a further step it fails, by lockup_err, which
- *   `taken` doesn't count, so the turn that finds this may report that it took 0 steps;
+ * - it has executed 4294967295 instructions since its DMAGO, and so it fails by lockup_err; this failure isn't counted
+ *   as a step, so the turn may report that it took 0 steps;
  * - its next store neither overlaps nor touches the range written so far, since a turn reports one range without gaps;
  * - its next store would make this range 2^32 bytes long, which `written.len` can't hold.
  *
  * After the DMASEV of an interrupt it takes one more step, mostly the DMAEND, since a driver's handler expects its
  * channel to be stopped. If this step would be a store, it is left to the next turn, so that at the interrupt no more
- * is copied than before its DMASEV. Whatever the guest's program is, a step wrote each address in `turn->written`, each
- * lies in a region that isn't read-only, and no byte elsewhere has changed. Codes: BAD_REGIONS. */
+ * is copied than before its DMASEV. Whatever the guest's program is, the turn wrote each byte of `turn->written`. Each
+ * of them lies in a region that isn't read-only, and no byte elsewhere has changed. Codes: BAD_REGIONS. */
 int32_t dma330_device_step(dma330_device *device, uint8_t channel, uint32_t most, const dma330_region *regions,
                            size_t region_count, dma330_device_turn *turn) DMA330_NO_NULLS;
 
 /* Lets a channel take several turns, one for each row, while it copies the rows of a rectangle. By dma330_device_step
- * each row takes a call, since the rows have gaps between them. The rows are found in a loop that copies each by pairs
- * of DMALD and DMAST with bursts of the same length, and then has DMAADDH SAR or not, and DMAADDH DAR, by multiples of
- * the beats; all rows lie after their sources, or all before them.
+ * each row takes a call, since the rows have gaps between them. The call finds rows in a loop that copies each of them
+ * by pairs of DMALD and DMAST with bursts of the same length. At the end of a round, this loop adds to DAR by a
+ * DMAADDH, and perhaps to SAR by another one before it, multiples of the beats' size. All rows lie after their sources,
+ * or all before them.
  *
  * Elsewhere the call takes one turn, so it may always be made in place of dma330_device_step. Before this turn it looks
  * for rows in at most the next 300 instructions, or `most` if that is less. It doesn't execute these, so they aren't
- * steps. If it finds rows, `rows->steps` is less than `most`, and the turn ends where they begin, or earlier.
+ * steps. If it finds rows there, the turn ends where they begin, or earlier: its bound `rows->steps` is then less than
+ * `most`.
  *
  * The result is that of `rows->count` calls of dma330_device_step with a `most` of `rows->steps`; `count` times `steps`
  * is at most `most`. Together they took `count` times `turn.taken` steps. Codes: BAD_REGIONS. */
 int32_t dma330_device_step_rows(dma330_device *device, uint8_t channel, uint32_t most, const dma330_region *regions,
                                 size_t region_count, dma330_device_rows *rows) DMA330_NO_NULLS;
 
-/* Explains the program that a DMAGO gave a channel, as dma330_explain does, on the device's bus and with the registers
+/* Explains the program that a DMAGO gave a channel, as dma330_explain does, for the device's bus and with the registers
  * that the channel has. Ask right after the DMAGO, before the channel's first turn: a DMAGO keeps the registers, so
- * these are then those with which the program begins. The call always explains the program from its first instruction
- * on. So after a turn it still answers the same if dma330_explain explains the program with no register known; of any
- * other program the answer may then be wrong. What it has answered right after the DMAGO remains true of the channel's
- * turns, also after a restore of what dma330_device_save has written since then. So keep this answer over a migration,
- * and don't ask again. Of a save that no device wrote nothing is promised, since it may have any registers.
+ * these are then those with which the program begins. The channel's turns change them. A later call still explains the
+ * program from its first instruction on, but with the registers of that moment, so its answer may be wrong. (If
+ * dma330_explain explains the program with DMA330_ANY_REGISTERS, too, the registers don't matter, and each later answer
+ * is the first one.)
+ *
+ * What the call has answered right after the DMAGO remains true of the channel's turns, also after a restore of what
+ * dma330_device_save has written since then. So keep this answer over a migration, and don't ask again. Of a save that
+ * no device wrote nothing is promised, since it may have any registers.
  *
  * A channel has a program from the DMAGO until the DMAEND or a DMAKILL, also while it waits or is faulting. The
  * explanation doesn't depend on the number of events: a device fails at an instruction with an event that it doesn't
@@ -911,16 +928,17 @@ int32_t dma330_device_explain(dma330_device *device, uint8_t channel, uint32_t m
                               dma330_explanation *explanation) DMA330_NO_NULLS;
 
 /* Writes the registers and counts of a device's channel. If the channel has failed, they are those from before the
- * instruction that failed, whatever the fault is. `stored` says how far a program is that dma330_device_explain
- * explained before its first turn: this many bytes of its `dst` and `zeros` together are done, of each list the first
- * ones, also if the channel waits or is faulting, as long as nobody else writes what the program reads or writes.
+ * instruction that failed, whatever the fault is. Say that dma330_device_explain explained the program before its first
+ * turn, and that nobody else writes what the program reads or writes. Then `stored` says how far it is, also if the
+ * channel waits or is faulting: of `dst` and `zeros` together this many bytes are done, of each list the first ones.
  * Codes: NO_CHANNEL. */
 int32_t dma330_device_registers(dma330_device *device, uint8_t channel, dma330_registers *registers) DMA330_NO_NULLS;
 
 /* Writes the interrupt lines: irq[31:0] as bits, and 1 if the line irq_abort is high, else 0. A high line of irq stays
- * high until the guest clears its interrupt by INTCLR, a reset, or a restore of a device in which it is low. INTCLR
- * clears what INTEN makes an interrupt at that time, also an event that was set before INTEN did so. The line irq_abort
- * is high until the guest has killed each faulting channel, and the manager if that is faulting. */
+ * high until one of three things happens: the guest clears its interrupt by INTCLR, the device is reset, or a device is
+ * restored in which the line is low. INTCLR clears what INTEN makes an interrupt at that time, also an event that was
+ * set before INTEN made it one. The line irq_abort is high until the guest has killed each faulting channel, and the
+ * manager if that is faulting. */
 int32_t dma330_device_lines(dma330_device *device, uint32_t *irqs, uint32_t *irq_abort) DMA330_NO_NULLS;
 
 /* Writes 1 if any channel can step, else 0. A channel can step if it executes a program and doesn't wait; one that
@@ -950,9 +968,9 @@ int32_t dma330_device_save(dma330_device *device, uint8_t *out, size_t room, siz
  * dma330_device_save and the next 8 aren't this version with this configuration: the device stays as it was. BAD_SAVE,
  * if anything else is wrong: the device is then in its state after a reset.
  *
- * In each save events, interrupts and INTEN have bits only of the device's events. A stopped channel has no program;
- * one that executes or waits has one. One that waits is at CPC before a DMAWFE of an event of the device, and has
- * executed fewer than 4294967295 instructions. No beat in CCR is wider than the bus. */
+ * In the save of a device, events, interrupts and INTEN have bits only of the device's events. A stopped channel has no
+ * program; one that executes or waits has one. CPC of one that waits is the address of a DMAWFE of an event of the
+ * device, and this channel has executed fewer than 4294967295 instructions. No beat in CCR is wider than the bus. */
 int32_t dma330_device_restore(dma330_device *device, const uint8_t *save, size_t len) DMA330_NO_NULLS;
 
 /* ---- programs of channels ----
@@ -986,10 +1004,11 @@ int32_t dma330_version(char *out, size_t room, size_t *len) DMA330_NO_NULLS;
 int32_t dma330_run_program(const uint8_t *program, size_t len, uint8_t *memory, size_t size, uint32_t limit,
                            dma330_run_end *end) DMA330_NO_NULLS;
 
-/* Explains a program before it runs. Writes which bytes it reads (`src`) and where it stores them (`dst`), which it
- * sets to 0 (`zeros`, by DMASTZ), each list in the order of the run, the events that it waits for and signals, and the
- * numbers of all. Byte number p that it reads is byte number p that it stores; no byte is stored twice, set to 0 twice
- * or stored and set to 0, and none where one is read. docs/EXPLANATIONS.md has an example.
+/* Explains a program before it runs. Writes four lists, each in the order of the run: which bytes it reads (`src`),
+ * where it stores them (`dst`), which it sets to 0 by DMASTZ (`zeros`), and the events that it waits for and signals
+ * (`events`). The explanation has the numbers of items. Byte number p that the program reads is byte number p that it
+ * stores. No byte is stored twice, set to 0 twice, or stored and set to 0, and none where one is read.
+ * docs/EXPLANATIONS.md has an example.
  *
  * `bus` is 0 for a dma330_channel, or 32, 64 or 128 for a channel of a device with this bus. The program begins with
  * the registers of `start` that are known. What is found holds whatever the others are: if an instruction uses one of
@@ -998,16 +1017,16 @@ int32_t dma330_run_program(const uint8_t *program, size_t len, uint8_t *memory, 
  * The call runs the program once, without a memory, for at most `most` instructions: their order and addresses are the
  * same in each memory. So a channel that runs the program does exactly this, if the regions have all these addresses,
  * none that it writes is read-only, no error is injected there, and nobody else writes there meanwhile. If UNEXPLAINED
- * is returned, the explanation has the cause, the offset, and how many instructions come before it. With a cause
- * UNSET_SAR to UNSET_LC1 the program uses this register there; with any other it does nothing of this kind in at most
- * `most` instructions. For BUFFER_TOO_SMALL the explanation is that of DMA330_OK, so the numbers are the room that is
- * needed. Only DMA330_OK writes the lists, each from its first item on. Each call writes the same items for a program;
- * no two neighbours of a list could be one item.
+ * is returned, the explanation has the cause, the offset of the instruction that has it, and how many instructions are
+ * executed before. With a cause UNSET_SAR to UNSET_LC1 the program uses this register there; with any other cause it
+ * makes no such copy within `most` instructions. For BUFFER_TOO_SMALL the explanation is that of DMA330_OK, so the
+ * numbers are the room that is needed. Only DMA330_OK writes the lists, each from its first item on. For the same
+ * arguments it writes the same items, and neighbours that can be one item are one.
  *
  * `most` bounds what a program of somebody else can cost. The time is proportional to the executed instructions, and at
- * the end the ranges that are stored are sorted. The call allocates up to 24 bytes for each executed DMAWFE and DMASEV,
- * 12 for a DMALD and 8 for a DMAST or DMASTZ that doesn't continue the range before it, at the end 8 more for each
- * range that is stored, and up to three times that while a list grows; all is freed when it returns.
+ * the end the ranges that are stored are sorted. The call allocates up to 24 bytes for each executed DMAWFE and DMASEV.
+ * For a DMALD that doesn't continue the range before it, it allocates 12, and for such a DMAST or DMASTZ 8, with 8 more
+ * at the end. While a list grows, it takes up to three times that. All is freed when the call returns.
  *
  * Codes: BAD_CONFIG for another bus, for a number that `known` can't be, and for a known CCR that no channel on the bus
  * has; PROGRAM_TOO_LONG, NO_MEMORY, UNEXPLAINED, BUFFER_TOO_SMALL. */
