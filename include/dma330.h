@@ -667,7 +667,7 @@ int32_t dma330_resume(dma330_controller *controller, uint8_t channel) DMA330_NO_
 int32_t dma330_terminate(dma330_controller *controller, uint8_t channel, uint32_t *count) DMA330_NO_NULLS;
 
 /* Lets a channel take up to `most` steps, and reports what the last one did. It ends early after a step that is neither
- * DMA330_STARTED nor DMA330_MOVED. Only if the first step is refused, the call is, too. At a refusal of a later step it
+ * DMA330_STARTED nor DMA330_MOVED. The call is refused only if its first step is. If a later step is refused, the call
  * returns DMA330_OK with a report of the steps before, and the next call tries that step again. Codes, of the first
  * step: NO_CHANNEL, STEPS_SPENT, NO_MEMORY. With `most` 0 the only code is NOT_OPEN. */
 int32_t dma330_step(dma330_controller *controller, uint8_t channel, uint32_t most,
@@ -729,8 +729,8 @@ int32_t dma330_uninject_errors(dma330_controller *controller) DMA330_NO_NULLS;
 int32_t dma330_raise(dma330_controller *controller, uint8_t event) DMA330_NO_NULLS;
 
 /* Drops the history and the results of finished transfers, and frees their memory. Nothing else changes: transfers that
- * haven't started stay. It first copies all pages that dma330_open says are allocated: the controller then holds them
- * twice, and three times during a later checkpoint. Codes: RUNNING if a transfer runs (`*conflict` then names it),
+ * haven't started stay. It first copies the pages that are allocated (see dma330_open), so the controller then holds
+ * them twice, and three times during a later checkpoint. Codes: RUNNING if a transfer runs (`*conflict` then names it),
  * NO_MEMORY. A transfer runs also while it is paused or waits for an event: resume the channel, raise the event or
  * terminate. If channels are always busy, don't step idle ones (dma330_running returns NOT_RUNNING) until the others
  * finish. */
