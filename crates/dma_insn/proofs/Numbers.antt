@@ -134,7 +134,7 @@ eight_digits a b c d e f g h v read =
     (some_same ((((((((0 * 16 + s0.digit) * 16 + s1.digit) * 16 + s2.digit) * 16 + s3.digit) * 16 + s4.digit) * 16 + s5.digit) * 16 + s6.digit) * 16 + s7.digit)
     v s7.more)
 
--- the same of eight digits
+-- If eight hexadecimal digits spell a value, then 0x and these digits are the value's word.
 eight_of : (digits : List ℕ) (v : ℕ) → length digits ≡ 8 → hex_from 0 digits ≡ Some v → IsValueWord (48 ∷ 120 ∷ digits) v
 eight_of (a ∷ b ∷ c ∷ d ∷ g ∷ h ∷ i ∷ j ∷ []) v n e = eight_digits a b c d g h i j v e
 eight_of _ v n e = absurd (omega arith)

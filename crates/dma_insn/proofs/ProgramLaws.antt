@@ -178,7 +178,8 @@ read_long : (n : ℕ) (program line : List ℕ) (i : Insn) → is_skipped line �
 unfolding after_line
 read_long n program line i taken e long = rw (taken, e, lt-leb _ most_program_bytes long) refl
 
--- the same, in front of further lines, of which the first is line m + 1
+-- Reading these lines appends the bytes of these instructions, if there is room. Then the further lines are read, of
+-- which the first is line m + 1.
 abbrev Again : List (List ℕ) → List (List ℕ) → ℕ → List ℕ → List Insn → Type 0
 Again lines after n program is = (m : ℕ) → m ≡ n + length lines → length (program ++ joined is) ≤ most_program_bytes
     → after_lines n program (lines ++ after) ≡ after_lines m (program ++ joined is) after

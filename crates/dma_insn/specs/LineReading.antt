@@ -56,7 +56,7 @@ number_of [] = None
 number_of (c ∷ []) = digits_from 0 (c ∷ [])
 number_of (c ∷ d ∷ rest) = if c == 48 then None else digits_from 0 (c ∷ d ∷ rest)
 
--- the same, with `Operand` in place of `None`
+-- Reads a number in decimal digits without leading zeros, capped at 65,535. For any other word the cause is `Operand`.
 abbrev pub number_at : List ℕ → Result ℕ AsmCause
 number_at word = ok_or (number_of word) Operand
 
@@ -75,7 +75,7 @@ abbrev pub value_of : List ℕ → Option ℕ
 value_of (a ∷ b ∷ digits) = if (a == 48) && ((b == 120) && (length digits == 8)) then hex_from 0 digits else None
 value_of _ = None
 
--- the same, with `Operand` in place of `None`
+-- Reads the value of a word of 0x and eight hexadecimal digits. For any other word the cause is `Operand`.
 abbrev pub value_at : List ℕ → Result ℕ AsmCause
 value_at word = ok_or (value_of word) Operand
 
@@ -86,7 +86,7 @@ register_of word =
     if bytes_eq word (codes "CCR") then Some Ccr else (
     if bytes_eq word (codes "DAR") then Some Dar else None))
 
--- the same, with `Operand` in place of `None`
+-- Reads the name of a register: SAR, CCR or DAR. For any other word the cause is `Operand`.
 abbrev pub register_at : List ℕ → Result Reg AsmCause
 register_at word = ok_or (register_of word) Operand
 
