@@ -77,7 +77,7 @@ abbrev pub Rising : ℕ → List Segment → Type 0
 Rising low [] = Unit
 Rising low (s ∷ rest) = (low ≤ s.addr) × (0 < s.len) × (s.addr + s.len ≤ 4294967295) × Rising s.addr rest
 
--- the same, each past the end of the one before
+-- Segments by rising address, none of which is empty, with at least one address between each and the next.
 abbrev pub Spaced : ℕ → List Segment → Type 0
 Spaced low [] = Unit
 Spaced low (s ∷ rest) = (low ≤ s.addr) × (0 < s.len) × Spaced (s.addr + s.len + 1) rest
