@@ -167,7 +167,7 @@ module _ {p : Parts} {ch : ℕ} {q : Queue} (r : Runs p ch q) where
         machines = w.machines;
       }))
 
-  -- The same for an instruction that stores nothing: the memory stays.
+  -- An instruction that stores nothing moves, and so does the step. Flags and history may change; the memory stays.
   pub record MovesBeside (flags : List Bool) (history : List Entry) (to : Object) (a b : Bool) : Type 0 where
     pub other : member r.transfer q.channel.taken ≢ St
     pub does : step_of_it r ≡ (Moved, record { image = p.memory; flags = flags })

@@ -107,7 +107,7 @@ find_none_at p o s ch r h none here =
     let before : find p (below o s ch) ≡ None = front _ (find p rest) (sym (ap (find p) (running_split o s ch h) ∙ find-append p (below o s ch) rest) ∙ none) in
     false_from_ne_true (p r) (λ e. let found = find_here p o s ch r h before here e in cc)
 
--- the same runs where each channel has the same running
+-- If each channel runs the same transfer in two objects, then the same transfers run in both.
 pub running_same : (o p : Object) (s t : List ChannelSchedule) → length o.channels ≡ length p.channels
     → ((c : ℕ) → c < length o.channels → runs p t c ≡ runs o s c) → running p t ≡ running o s
 unfolding running

@@ -189,7 +189,7 @@ abbrev pub CallAnswers : View → Call → Reply → View → Type 0
 CallAnswers old call (Refused NoMemory) new = (takes_memory old call ≡ true) × (new ≡ old)
 CallAnswers old call reply new = (reply, new) ≡ answer old call
 
--- the same for the result of one step
+-- A step of a channel, which is a call, has this result, and this is the view after it.
 abbrev pub StepAnswers : View → ℕ → Result Turn EngineFault → View → Type 0
 StepAnswers old ch result new = CallAnswers old (Step ch) (reply_of Turned result) new
 
