@@ -125,7 +125,7 @@ board_status base before v opens h ch cookie =
     ∙ ap (λ (c : Counts). status_by c.used c.finished cookie) same
     ∙ sym (status_by_ticks v ch cookie h)
 
--- The same desk under a new name, with an empty book.
+-- A desk that gets a new name and an empty book is kept under that name.
 pub kept_anew : (opening opening_now : View) (base base_now : Board) (log log_now : Book) (engine : EngineState) (p : PublisherState) (b e : Totals)
     → IsKept opening base log engine p b → Names opening_now base_now log_now (record { engine = engine; base = base; log = log }) → (e.steps ≡ 0)
     × (e.finished ≡ 0) × (e.terminated ≡ 0) → IsKept opening_now base_now log_now engine p e

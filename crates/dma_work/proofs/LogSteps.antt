@@ -24,7 +24,7 @@ recounted cs log n k h less = elim (cases_eq k 0) [
   | inr apart ↦ ap (λ (c : Cell). c.1) (get_or-set_other cs 0 k (n, true) (0, false) apart) ∙ h.homes k less
 ]
 
--- the same count is written
+-- If the count that is there already is written once more, then the cells count the same log.
 same_count : (cs : List Cell) (log : List Tick) (n : ℕ) → IsCounted cs log → (cell cs 0).0 ≡ n → IsCounted (slice_set cs 0 (n, true)) (log ++ [])
 same_count cs log n h is = rw (append-nil log) (record {
   spare = h.spare;

@@ -19,7 +19,7 @@ pub record TookTurnsAt
 abbrev pub any_desk : Unit {0} → DeskState → DeskState → Unit {0} → Type 0
 any_desk before lent back after = Unit {0}
 
--- The same at a lender of which nothing is known.
+-- A new worker with this number took the turns of a job at a lender of which nothing is known.
 abbrev pub TookTurns : View → (ℕ → ℕ → Type 0) → ℕ → Job → TallyCounts → Type 0
 TookTurns opening passes worker job tally = TookTurnsAt opening passes any_desk worker job tt tt tally
 
