@@ -19,7 +19,7 @@ writes_file p = p.succeeds || nat_lt 0 (length p.file)
 abbrev pub prints_of : Answer → Prints
 prints_of a = record { out = a.out.items; err = a.err.items; file = a.file.items; succeeds = a.succeeds }
 
--- the same with a note after the message on standard error
+-- A note follows the message on standard error; everything else stays.
 abbrev pub with_note : Prints → List ℕ → Prints
 with_note p note = record p { err = p.err ++ note }
 
@@ -28,7 +28,7 @@ abbrev pub named : List ℕ → List ℕ → List ℕ
 named name [] = []
 named name (b ∷ message) = name ++ 58 ∷ [] ++ (b ∷ message)
 
--- the same with the name of the input before the message on standard error
+-- The name of the input and a colon precede the message on standard error, if there is one.
 abbrev pub under_name : List ℕ → Prints → Prints
 under_name name p = record p { err = named name p.err }
 

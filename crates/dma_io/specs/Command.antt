@@ -31,7 +31,7 @@ may_print_within may input printed =
     ((longest_input < length input) × (printed ≡ refusal (codes "line 0: InputTooLong")))
     ⊎ ((length input ≤ longest_input) × may input printed)
 
--- The same for a command that prints one text for an input.
+-- A command that prints one text for each input prints this text, or refuses an input that is too long.
 abbrev pub printed_within : (List ℕ → Printed) → List ℕ → Printed → Type 0
 printed_within printed = may_print_within (λ input p. p ≡ printed input)
 
