@@ -144,7 +144,8 @@ race_moves : (before : Option RunScript) (jobs : List JobLine) (after : Option (
     → IfOk (next_race_line (race_read before jobs after) keyword words) (Moves (race_read before jobs after) keyword)
 race_moves before jobs after keyword words h = grind (arith, early_moves, bind_holds, or_true, is_some, nat_lt, length-append)
 
--- The same of any words.
+-- After a line of any words, what was read is sound. Its side is that after the command, if one was taken; else it
+-- stays.
 abbrev Goes : RaceRead → Option RaceKeyword → Bool → RaceRead → Type 0
 Goes read found taken next = (side_of next ≡ (if taken then after_command (side_of read) found else side_of read)) × IsSound next
 

@@ -54,7 +54,7 @@ pairs_past_space line [] one is = absurd (omega arith)
 pairs_past_space line (a ∷ []) one is = rw is refl
 pairs_past_space line (a ∷ b ∷ rest) one is = rw is refl
 
--- The same of what follows a pair and a space.
+-- If two texts have the same pairs, then they have the same behind bytes that were read before.
 pub pairs_after_same : (before : List ℕ) (line : ℕ) (rest shorter : List ℕ) → pairs_from line shorter ≡ pairs_from line rest
     → pairs_after before line shorter ≡ pairs_after before line rest
 pairs_after_same before line rest shorter same = ap (λ read. read >>= (λ more. Ok (before ++ more))) same

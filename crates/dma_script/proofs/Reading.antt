@@ -23,7 +23,8 @@ line_read shape words found done e is = ap (λ done. done >>= (λ u. Ok found.0)
 made_then : {A B : Type 0} (done : Result (Unit {0}) Cause) (a : A) (f : A → Result B Cause) → (done >>= (λ u. f a)) ≡ ((done >>= (λ u. Ok a)) >>= f)
 made_then done a f = grind (arith)
 
--- The same where more follows.
+-- The words of a line were read, and then its end was checked. Going on from what was read is going on from the words'
+-- meaning.
 line_then : {A B : Type 0} (shape : Shape A) (words : List (List ℕ)) (found : A × LineRead) (done : Result (Unit {0}) Cause) (f : A → Result B Cause)
     → found ≡ read_words shape (unread words) → done ≡ ended found.1 → (done >>= (λ u. f found.0)) ≡ (meaning shape words >>= f)
 line_then shape words found done f e is = made_then done found.0 f ∙ ap (λ made. made >>= f) (line_read shape words found done e is)

@@ -38,7 +38,7 @@ some_holds P o e h = grind (arith)
 where_true : (b : Bool) (cause : Cause) → IfOk (where_holds b cause) (λ _. b ≡ true)
 where_true b cause = grind (arith)
 
--- The same of a value that a function returned.
+-- What holds of the value that a function has to give holds of the value that it returned.
 pub given_holds : {A E : Type 0} (P : A → Type 0) (result : Result A (ReadError E)) (gives : Result A E) → Gives (λ a. a) result gives → IfOk gives P
     → IfOk result P
 given_holds P result gives h h2 = grind (arith)

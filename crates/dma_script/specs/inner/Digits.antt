@@ -25,7 +25,8 @@ number_after some value base digits =
     && nat_lt (digits_value_after base value digits) (2 ^ 32)
     then Some (digits_value_after base value digits) else None
 
--- the same of the digits before the first `stop`, and what follows it
+-- The digits before the first `stop` continue a number, as in `number_after`. This is the number that they spell
+-- together, and what follows the `stop`.
 abbrev pub digits_before : ℕ → ℕ → Bool → ℕ → List ℕ → Option (ℕ × Option (List ℕ))
 digits_before base stop some value bytes = option_map (λ n. (n, behind stop bytes)) (number_after some value base (front stop bytes))
 
