@@ -77,7 +77,7 @@ reaches_all v w all rest old new h none =
     let g = subst (λ l. Reaches v all old w l new) none h in
     record { left = sym g.left; text = g.text ∙ ap (λ l. old ++ printed_text l) (sym (append-nil g.groups) ∙ sym g.answered) }
 
--- the same lines, one of which another stands for that is answered alike
+-- If a line is replaced by one that is answered alike, then all lines are answered as before.
 answered_alike : (v : View) (before behind : List Statement) (line other : Statement) → ((x : View) → line_answer x line ≡ line_answer x other)
     → lines_answered v (before ++ line ∷ behind) ≡ lines_answered v (before ++ other ∷ behind)
 answered_alike v [] behind line other alike = ap (λ (a : Answered). a.0 ∷ lines_answered a.1 behind) (alike v)
@@ -133,7 +133,8 @@ stops_before v list behind old new h =
       whole = h.whole ∙ ap (λ l. old ++ printed_text l) (sym (ap (take h.count) all ∙ take-append-le h.count (lines_answered v list) more (omega (arith, h.some_left))));
     }
 
--- the same lines, one of which another stands for
+-- If a line is replaced by one that is answered alike, then what was printed so far is still the text of the first
+-- lines.
 pub stops_alike : (v : View) (before behind : List Statement) (line other : Statement) (old new : List ℕ)
     → ((x : View) → line_answer x line ≡ line_answer x other) → AppendsGroups (lines_answered v (before ++ other ∷ behind)) old new
     → AppendsGroups (lines_answered v (before ++ line ∷ behind)) old new

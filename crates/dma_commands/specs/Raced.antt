@@ -81,8 +81,8 @@ step_groups (t ∷ turns) (result ∷ results) =
     (step_line t.channel (reply_text (reply_of Turned result), 1) ∷ []) ∷ step_groups turns results
 step_groups _ _ = []
 
--- If step lines for the turns are in place of `go`, then `run` prints the turns' results in place of their totals, and
--- the same for the lines after `go`.
+-- If step lines for the turns are in place of `go`, then `run` prints the turns' results in place of their totals. For
+-- the lines after `go` it prints what the race prints.
 abbrev pub RacesAreRuns : Type 0
 RacesAreRuns =
     (v : View) (turns : List JobTurn) (after : List Statement) → let taken = turns_taken v turns in
