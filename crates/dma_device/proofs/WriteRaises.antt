@@ -50,11 +50,11 @@ intclr_lowers false d ram value k has = word_lowers d d.events value k has
 
 -- ---- other registers
 
--- the same configuration and INTEN leave a device its lines
+-- What leaves a device its configuration and INTEN leaves it its lines.
 pub has_kept : (k : ℕ) (d e : DeviceValue) → e.config ≡ d.config → e.inten ≡ d.inten → HasLine d k → HasLine e k
 has_kept k d e config inten has = record { events = rw config has.events; event = rw config has.event; inten = rw inten has.inten }
 
--- and so does each write
+-- Each write of a register leaves a device its lines.
 pub write_has : (k : ℕ) (ram : List Piece) (at value : ℕ) (d : DeviceValue) → HasLine d k → HasLine (written ram at value d) k
 write_has k ram at value d has =
     let all : 2 ^ d.config.events ≤ 2 ^ 32 = pow_mono {i = d.config.events} {j = 32} has.events in
