@@ -20,7 +20,7 @@ use Rattle.dma_chan.proofs.CallWrites.{call_writes_no_other}
 
 -- ---- one call
 
--- the same of memories that agree at what the work uses
+-- A part of a work is done in other memories, too, if they agree with these at what the work uses.
 pub first_agrees : (work : Work) (done : Amounts) (f g first memory : ℕ → ℕ) → IsWork work → ((a : ℕ) → Uses work a → first a ≡ f a)
     → ((a : ℕ) → Uses work a → memory a ≡ g a) → HasFirst work done f g → HasFirst work done first memory
 first_agrees work done f g first memory h same left w = grind (arith, Contains-get_or)

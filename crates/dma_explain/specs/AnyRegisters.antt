@@ -16,7 +16,8 @@ AnyExplained =
     (bus : Bus) (program : List ℕ) (most : ℕ) (x : Explained) → FindsFrom (none_given bus) program most x →
     ExplainsAny bus program (work_of x) (x.steps - 1)
 
--- The same on each chip's bus that is no wider and that the program's beats fit.
+-- A work that explains a program for any registers on a chip's bus explains it for any registers on each chip's bus
+-- that is no wider, if the program's beats fit that bus.
 abbrev pub AnyNarrower : Type 0
 AnyNarrower =
     (wide narrow : BusWidth) (program : List ℕ) (w : Work) (n : ℕ) → bus_code narrow ≤ bus_code wide →

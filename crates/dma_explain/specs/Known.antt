@@ -67,6 +67,6 @@ RefusesFor (UsesUnknown r) given program most u =
 RefusesFor cause given program most u =
     (start : Registers) → MayBegin given start → Refuses start program most u
 
--- the same for its own cause
+-- A program is refused for the cause that was found, whichever registers it may begin with.
 abbrev pub RefusesFrom : Given → List ℕ → ℕ → Unexplained → Type 0
 RefusesFrom given program most u = RefusesFor u.cause given program most u

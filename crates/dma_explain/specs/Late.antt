@@ -12,12 +12,12 @@ abbrev pub sets_dar : Reg → Bool
 sets_dar Dar = true
 sets_dar reg = false
 
--- whether a DMAADDH or DMAADNH does
+-- whether a DMAADDH or DMAADNH of an address moves the destination
 abbrev pub adds_dar : Address → Bool
 adds_dar Destination = true
 adds_dar address = false
 
--- whether an instruction that is no burst does
+-- whether an instruction that is no burst moves the destination
 abbrev pub moves_dar : ChipInsn → Bool
 moves_dar (Mov reg v) = sets_dar reg
 moves_dar (AddHalfword address half negative) = adds_dar address
@@ -28,7 +28,8 @@ moves_dar i = false
 abbrev pub late_with : Bool → ℕ → ℕ → Option ℕ → Option ℕ
 late_with moves held pc before = if moves && nat_lt 0 held then option_or before (Some pc) else before
 
--- the same with one more instruction of a program
+-- Among a program's instructions up to this one, the first that moves the destination while bytes are in the buffer has
+-- this offset. Among those before this one it is `before`.
 abbrev pub late_after : Result ChipInsn FaultKind → Trace → Option ℕ → Option ℕ
 late_after (Ok i) x before = late_with (moves_dar i) (held x) x.registers.pc before
 late_after (Err kind) x before = before

@@ -102,9 +102,10 @@ pub fn copies_since_load()
     ensures grows { DoneGrows }
 {}
 
-/// The same of any number of channels, which are loaded at any time and stepped in any order. Of another channel with a
-/// program that a work explains it is enough that the work writes elsewhere, and of one with any program that
-/// its calls report other addresses as written.
+/// Any number of channels, which are loaded at any time and stepped in any order, do the programs that works explain,
+/// as `copies_since_load` says of one channel. What the others write must lie elsewhere. Of another channel with a
+/// program that a work explains it is enough that this work writes elsewhere, and of one with any program that its
+/// calls report other addresses as written.
 pub fn channels_copy()
     ensures { ChannelsCopy }
 {}
