@@ -16,7 +16,8 @@ AnswersProgram (Err u) code before after =
     ⊎ (((u.cause ≡ NoMemory) × (code ≡ no_memory) × (after ≡ before))
     ⊎ ((u.cause ≢ TooLong) × (u.cause ≢ NoMemory) × (code ≡ unexplained) × (after ≡ with_cause u before)))
 
--- The same of a device's channel; a channel that doesn't exist, or has no program, has a code of its own.
+-- A device's channel is answered as its program is. If the channel doesn't exist, or has no program, then the code says
+-- so, and nothing is written.
 abbrev pub AnswersDevice : Result Explained ExplainFault → ℤ → Outputs → Outputs → Type 0
 AnswersDevice (Ok x) code before after = WritesFound x code before after
 AnswersDevice (Err (faults.Unexplained u)) code before after = AnswersProgram (Err u) code before after
