@@ -57,7 +57,8 @@ fields_read (w ∷ ws) (suc k) f g tail fits a spaces =
     let set : set_field f w rest ≡ Ok a.0 = a.3 rest in
     rw (next, set) (fields_read ws k a.0 g tail (omega arith) a.4 spaces)
 
--- The same of the fields of one end, by their names without the end's letter.
+-- Words that set fields of one end, one after the other, by their names without the end's letter, lead from these
+-- values to those.
 abbrev EndSet : Side → EndFields → List (List ℕ) → EndFields → Type 0
 EndSet side e [] d = e ≡ d
 EndSet side e (name ∷ names) d =

@@ -120,7 +120,7 @@ pair_words b small =
     let low = glyph_word (b % 16) (omega arith) in
     (and_from _ _ high.0 (and_from _ _ low.0 refl), and_from _ _ high.1 (and_from _ _ low.1 refl))
 
--- the same of two bytes
+-- The hexadecimal digits of two bytes, one behind the other, can stand in a word and in a line.
 pub four_words : (o : ℕ) → (list_all is_word_byte (plain (hex_pair (o / 256 % 256) ++ hex_pair (o % 256))) ≡ true)
     × (list_all is_inline (hex_pair (o / 256 % 256) ++ hex_pair (o % 256)) ≡ true)
 four_words o =

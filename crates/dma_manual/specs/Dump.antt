@@ -53,7 +53,7 @@ abbrev pub leading_spaces : List ℕ → ℕ
 leading_spaces [] = 0
 leading_spaces (b ∷ line) = if b == 32 then 1 + leading_spaces line else 0
 
--- the same line, at another place
+-- The scan goes to another place, and nothing else happens.
 abbrev pub at_place : Scan → Place → Step
 at_place s p = Ok (record s { place = p }, Nothing)
 
@@ -211,7 +211,7 @@ behind_step form s line wide b =
     if (wide && has_spaced_text form.column) && not (b == 10) then text_step form s line (leading_spaces line) b
     else content form s b))
 
--- the same scan in an array, at another place of it
+-- The scan goes to another place of an array, and the byte has this effect; or this is what is wrong.
 abbrev pub in_array : Scan → Result (ArrayPlace × Effect) Cause → Step
 in_array s (Ok next) = Ok (record s { place = Array next.0 }, next.1)
 in_array s (Err cause) = Err cause
@@ -237,6 +237,6 @@ place_step form s bytes (Group marked d v) b = group_step form s marked d v b
 place_step form s bytes (Text k) b = text_step form s (drop s.before bytes) k b
 place_step form s bytes (Array p) b = in_array s (array_step p b)
 
--- the same; a carriage return is left out
+-- What the byte b is a part of, given the scan and the bytes read so far. A carriage return is left out.
 abbrev pub next_of : Form → Scan → List ℕ → ℕ → Step
 next_of form s bytes b = if b == 13 then Ok (s, Nothing) else place_step form s bytes s.place b

@@ -87,6 +87,6 @@ plain_forms =
 abbrev pub words_first : List Form
 words_first = form Colon Word ∷ form Colon Long ∷ form Colon Half ∷ form Colon Byte ∷ plain_forms
 
--- the same with bytes after a colon before words
+-- In this order of the forms, bytes after a colon are tried before all others.
 abbrev pub bytes_first : List Form
 bytes_first = form Colon Byte ∷ words_first

@@ -64,7 +64,7 @@ HasOtherRanges (LoopAgainIf r b) = b < 256
 HasOtherRanges (Go c a ns) = (c < 8) × (a < 2 ^ 32)
 HasOtherRanges _ = Unit {0}
 
--- the same of each instruction
+-- Each field of an instruction of the manual is in its range.
 abbrev pub HasRanges : ManualInsn → Type 0
 HasRanges (Chip i) = HasChipRanges i
 HasRanges (Other i) = HasOtherRanges i

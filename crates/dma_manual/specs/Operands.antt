@@ -19,7 +19,7 @@ abbrev pub none_left : Option (List ℕ × List ℕ) → Result (Unit {0}) Fault
 none_left None = Ok tt
 none_left (Some w) = Err (fault_at causes.Extra w.0 w.1)
 
--- the same of the rest of a line
+-- succeeds if the rest of a line has no word
 abbrev pub no_more : List ℕ → Result (Unit {0}) Fault
 no_more rest = none_left (next_of rest)
 
@@ -47,7 +47,7 @@ within none cause low high (Some n) word rest =
 abbrev pub number_at : AsmCause → ℕ → ℕ → List ℕ → List ℕ → List ℕ → Result ℕ Fault
 number_at cause low high digits word rest = within causes.Number cause low high (number_of digits) word rest
 
--- the same, with the cause also for what is no number
+-- The number that the digits of a word spell. The cause is the same whether it is too small, too large or no number.
 abbrev pub field_at : AsmCause → ℕ → ℕ → List ℕ → List ℕ → List ℕ → Result ℕ Fault
 field_at cause low high digits word rest = within cause cause low high (number_of digits) word rest
 
@@ -75,6 +75,6 @@ flag_by flag None = Ok false
 flag_by flag (Some w) =
     if bytes_eq w.0 flag then (no_more w.1 >>= λ done. Ok true) else Err (fault_at causes.Extra w.0 w.1)
 
--- the same of the rest of a line
+-- The rest of a line may be a flag: true if it is, and false if no word is left. Any other word is a fault.
 abbrev pub flag_at : List ℕ → List ℕ → Result Bool Fault
 flag_at flag rest = flag_by flag (next_of rest)

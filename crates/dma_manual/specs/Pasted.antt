@@ -69,7 +69,8 @@ ended s bytes at =
     if is_whole s.place && nat_lt 0 (length bytes) then Ok (bytes, s.is_sure)
     else Err (record { cause = BadByte; at = at; is_dump = nat_lt 0 (length bytes) })
 
--- the same for the rest of a text, which begins at an offset; a line end is added to it
+-- Reads the rest of a text, which begins at an offset, with a line end added to it. The result is that of `ended`, or
+-- the first fault.
 abbrev pub read_from : Form → Scan → List ℕ → ℕ → List ℕ → Result (List ℕ × Bool) Fault
 read_from form s bytes at [] = do
   next ← taken form s bytes at 10

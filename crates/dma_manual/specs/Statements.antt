@@ -85,7 +85,8 @@ again_by (Some w) = do
   done ← no_more w.1
   Ok counter
 
--- the same for a DMALPEND that may be for a kind of request; if it is, nothing follows its jump
+-- What follows the jump of a DMALPEND that closes a DMALPFE: nothing, if it is for a kind of request, else as in
+-- `again_by`.
 abbrev pub again_at : Option Request → List ℕ → Result Again Fault
 again_at None rest = do
   counter ← again_by (next_of rest)
@@ -108,7 +109,7 @@ loop_end_by labels condition (Some w) =
     if starts_with nat_eq w.0 (codes "-") then again_line condition w.0 w.1
     else (ok_or (counter_of w.0) (fault_at causes.Counter w.0 w.1) >>= λ counter. loop_end_to labels condition counter (next_of w.1))
 
--- the same of the rest of a line
+-- The rest of a line after DMALPEND has no word, or a jump, or a counter and what follows it.
 abbrev pub loop_end_line : List Label → Option Request → List ℕ → Result Statement Fault
 loop_end_line labels condition rest = loop_end_by labels condition (next_of rest)
 
