@@ -149,7 +149,7 @@ fault_words InstrFetchErr first next f = fetch_words first next
 fault_words DataWriteErr first next f = codes "it can't store " ++ span_text (destination_of f.registers)
 fault_words DataReadErr first next f = codes "it can't load " ++ span_text (source_of f.registers)
 
--- the same after the fault's name and bit
+-- The fault's name comes first, then its bit of FTR, and then what is wrong with the instruction.
 unfoldable pub fault_text : FaultKind → Option ℕ → Result ChipInsn FaultKind → Front → List ℕ
 fault_text kind first next f =
     fault_name kind ++ (codes " (FTR bit " ++ decimal (fault_bit kind)) ++ (codes "): " ++ fault_words kind first next f)

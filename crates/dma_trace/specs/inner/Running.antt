@@ -38,7 +38,7 @@ pub record Runs (o : TraceOptions) (marks : MarkList) (places : List Segment) (s
   pub to_err : new_err ≡ err ++ (end_after o marks s count).wrong
   pub to_wave : new_wave ≡ wave ++ if_wave o (waveform marks s count (last_answer marks s o.limit count))
 
--- the same of a run of a program over regions
+-- A run of a program over regions has ended, and its lines, its waveform and its end are appended.
 abbrev pub RunsOver : TraceOptions → MarkList → List ℕ → List Region → List Region → Bool → (out err wave new_out new_err new_wave : List ℕ) → Type 0
 RunsOver o marks program first left good out err wave new_out new_err new_wave =
     Runs o marks (map segment_of first) (opening o program (image_of (pieces_of first))) good (image_of (pieces_of left)) out err wave new_out new_err
