@@ -76,7 +76,7 @@ abbrev pub FormReplies : Request → List Region → Option Form × List ℕ →
 FormReplies request ram program p =
     (q : Prints) × ProgramReplies request ram program.1 q × (p ≡ with_note q (form_note program.0 q.err))
 
--- the same, or what it prints for the text's first fault
+-- What a request prints for a text that was read: for its program, as in `FormReplies`, or for the text's first fault.
 abbrev pub ReadReplies : Request → List Region → List ℕ → Program → Prints → Type 0
 ReadReplies request ram text (Ok program) p = FormReplies request ram program p
 ReadReplies request ram text (Err why) p = p ≡ refusal why text
