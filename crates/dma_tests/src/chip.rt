@@ -16,7 +16,7 @@ use std::test::Fail;
 static CLEARED: &[u8] =
     b"\xbc\0\x08\x01\0\0\xbc\x02\0\x01\0\0\xbc\x01\x31\x40\x0c\0\x20\x03\x0c\x13\x0c\x38\x03\0";
 
-// The same DMAMOVs, and twice four times DMASTZ.
+// The DMAMOVs of `CLEARED`, and then twice four times DMASTZ.
 static CLEARED_TWICE: &[u8] =
     b"\xbc\0\x08\x01\0\0\xbc\x02\0\x01\0\0\xbc\x01\x31\x40\x0c\0\x22\x01\x20\x03\x0c\x38\x01\x3c\x05\0";
 
@@ -25,7 +25,7 @@ static CLEARED_TWICE: &[u8] =
 static ROWS: &[u8] =
     b"\xbc\0\0\x02\0\0\xbc\x02\0\x01\0\0\xbc\x01\x31\x40\x0c\0\x20\x02\x04\x08\x04\x08\x54\x08\0\x38\x07\0";
 
-// The same rows, which are stored 16 bytes apart too: a DMAADDH DAR 8 follows that of SAR.
+// The rows of `ROWS`, which are stored 16 bytes apart too: a DMAADDH DAR 8 follows that of SAR.
 static ROWS_APART: &[u8] =
     b"\xbc\0\0\x02\0\0\xbc\x02\0\x01\0\0\xbc\x01\x31\x40\x0c\0\x20\x02\x04\x08\x04\x08\x54\x08\0\x56\x08\0\x38\x0a\0";
 
