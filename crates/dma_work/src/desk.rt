@@ -23,8 +23,9 @@ use dma_mem::transfer::Transfer;
 use std::marker::{Brand, Model, PhantomData};
 use std::sync::Wait;
 
-/// Names a desk by the log of its published list, the counts with which this list begins, the engine's view when the
-/// desk was made, and the jobs of its shift, if it is on one.
+/// The name of a desk, by which contracts tell one desk's tallies and tickets from another's. A name has the log of the
+/// published list, the counts with which this list begins, the engine's view when the desk got the name, and the jobs
+/// of its shift, if it is on one.
 pub trait DeskName {
     ghost use Rattle.std.specs.Prelude.{List};
     ghost use Rattle.logbook.specs.Pages.{Book};
@@ -58,8 +59,8 @@ impl DeskName for Brand {
 ///
 /// Its type guarantees four facts. The published list ends with the ticks of the engine's history, and no tick is
 /// pending. The published ticks before those add up to the counts with which the history begins. The book has what the
-/// step count and the number of finished cookies have risen by since N's opening view. The engine has that view's size
-/// and number of channels.
+/// step count and the number of finished cookies have risen by since the desk got its name. The engine has the size and
+/// the number of channels that it had then.
 pub struct Desk<N: DeskName> {
     // first, as each step writes it: it lies in the lock's line, as the engine's step count does
     book: Totals,
@@ -80,7 +81,8 @@ impl<N: DeskName> Model for Desk<N> {
 }
 
 impl<N: DeskName> Desk<N> {
-    /// Returns a desk of these parts, with an empty book. N names the parts.
+    /// Returns a desk of these parts, with an empty book. The desk's name has the view of the parts' engine, and the
+    /// log and the counts of their published list.
     pub fn new(parts: Parts) -> Desk<N>
         requires { Names N.opening N.base N.log parts }
         ensures { result ≡ record { engine = parts.engine; book = no_totals; before = [] } }
@@ -94,7 +96,8 @@ impl<N: DeskName> Desk<N> {
         }
     }
 
-    /// Names the desk anew, with an empty book. M names the desk as it is.
+    /// Gives the desk a new name, with an empty book. The new name has the engine's present view, and the log and the
+    /// counts of the old name.
     pub(crate) fn named_anew<M: DeskName>(self) -> Desk<M>
         requires { Names M.opening M.base M.log
             (record { engine = self.engine; base = N.base; log = N.log }) }
@@ -155,8 +158,8 @@ impl<N: DeskName> Desk<N> {
 
     /// Lets a reader learn what is published, and returns the status of a cookie that the reader then returns, like
     /// [`Desk::status`]. If it returns a status, the reader has seen exactly what is published, and this begins with all
-    /// that the reader had seen or learnt. N names the reader's list. The reader has learnt also if it returns `None`;
-    /// that it never does so is tested, not proved.
+    /// that the reader had seen or learnt. The reader has to be one of this desk's published list. It has learnt also
+    /// if this returns `None`; that this never does so is tested, not proved.
     pub fn status_by_reader(&self, reader: &mut StatusReader, ch: u8, cookie: u32) -> Option<Status>
         requires { (N.log ≡ reader.old.log) × (N.base ≡ reader.old.base) }
         ensures status { IfSome result

@@ -5,7 +5,7 @@ ghost use Rattle.dma_mem.specs.Limits.{last_channel};
 
 use dma_mem::limits::LAST_CHANNEL;
 
-/// The channels that a worker steps in rotation, and its number of turns.
+/// What one worker has to do: it steps these channels in rotation, one in each of its turns.
 #[derive(Clone, Copy)]
 pub struct Job {
     /// The first channel.

@@ -58,7 +58,7 @@ pub enum ShareFaultKind {
     NoMemory,
 }
 
-/// Why no parts were made, with the engine.
+/// Why no parts were made, with the engine, which the caller so gets back.
 #[derive(Drop)]
 pub struct ShareFault {
     /// The reason.

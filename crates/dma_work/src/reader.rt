@@ -12,7 +12,8 @@ use core::mem::replace_with;
 use dma_engine::Status;
 use std::marker::{Model, PhantomData};
 
-/// A ticket for a published list of ticks. Contracts see the ticks.
+/// Shows which ticks were published when a call returned. A reader that learns it ([`StatusReader::learn`]) answers
+/// from then on from a list that begins with these ticks. Contracts see the ticks.
 #[derive(Drop)]
 pub struct Ticket<N: DeskName> {
     list: Snapshot,
@@ -137,8 +138,8 @@ impl StatusReader {
         StatusReader { reader, learnt }
     }
 
-    /// Learns a ticket: from then on each status is that of a list that begins with the ticket's list. N names this
-    /// reader's list.
+    /// Learns a ticket: from then on each status is that of a list that begins with the ticket's list. The ticket has
+    /// to be one of the published list that this reader reads.
     pub fn learn<N: DeskName>(&mut self, ticket: Ticket<N>)
         requires { (N.log ≡ self.old.log) × (N.base ≡ self.old.base) }
         ensures seen { self.new ≡ record (self.old) { learnt = self.new.learnt } }

@@ -25,7 +25,7 @@ impl Model for Seats {
     ghost view = { λ s. s.seats.items };
 }
 
-/// The rota of some jobs, of which no turn was taken. Contracts see the jobs.
+/// The jobs with which a shift begins, one for each worker. No turn of them was taken. Contracts see the jobs.
 #[derive(Drop)]
 pub struct Rota {
     seats: Seats,

@@ -27,7 +27,8 @@ pub struct Shared<N: DeskName> {
 }
 
 impl<N: DeskName> Shared<N> {
-    /// Returns a desk of these parts behind a lock. N names the parts.
+    /// Returns a desk of these parts behind a lock, so that threads can share it. The desk's name has the view of the
+    /// parts' engine, and the log and the counts of their published list.
     pub fn new(parts: Parts) -> Shared<N>
         requires { Names N.opening N.base N.log parts }
     {
@@ -41,7 +42,7 @@ impl<N: DeskName> Shared<N> {
         }
     }
 
-    /// Returns the one lock.
+    /// Returns the lock behind which the desk is. A thread takes it to use the desk itself.
     pub fn desk(&self) -> &Mutex<Desk<N>> {
         &self.desk
     }
@@ -66,7 +67,7 @@ impl<N: DeskName> Shared<N> {
     }
 }
 
-/// Tallies whose sums aren't those of a desk's book, with the desk.
+/// Why [`settle`] ended no desk: the sums of these tallies aren't those of the desk's book. All comes back unchanged.
 pub struct MissingTally<N: DeskName> {
     /// The unchanged desk, behind its lock.
     pub shared: Shared<N>,

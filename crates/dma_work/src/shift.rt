@@ -17,8 +17,8 @@ use std::thread::{self, Scope, Threads};
 /// A desk that works on the jobs of a rota. Until the shift ends, nothing but their turns can be taken. Contracts see
 /// the desk, a seat for each job, and whether a turn was out of memory: then no further turn is taken.
 ///
-/// Its type guarantees that since N's opening view nothing was done but the turns that the seats count, and that the
-/// next turn of some worker's job takes memory if a turn was out of memory.
+/// Its type guarantees that nothing was done since the shift began but the turns that the seats count. It also
+/// guarantees that the next turn of some worker's job takes memory if a turn was out of memory.
 pub struct Shift<N: DeskName> {
     desk: Desk<N>,
     seats: Seats,
@@ -50,8 +50,8 @@ fn take_step<N: DeskName, R: Wait>(rt: &R, desk: &mut Desk<N>, ch: u8) -> Result
 }
 
 impl<N: DeskName> Shift<N> {
-    /// Names a desk anew, with an empty book, and begins to work on the jobs of a rota. N names the desk as it is, and
-    /// the jobs.
+    /// Gives a desk a new name, with an empty book, and begins to work on the jobs of a rota. The new name has the
+    /// engine's present view, the log and the counts of the old name, and the jobs.
     pub fn new<M: DeskName>(desk: Desk<M>, rota: Rota) -> Shift<N>
         requires names { Names N.opening N.base N.log
             (record { engine = desk.engine; base = M.base; log = M.log }) }
@@ -127,7 +127,7 @@ impl<N: DeskName> Shift<N> {
     }
 
     /// Takes the turns that are left, and returns the desk. Then all turns of the jobs were taken, one after another in
-    /// some order, and nothing else was done since N's opening view. The book has their sums. If a turn is out of
+    /// some order, and nothing else was done since the shift began. The book has their sums. If a turn is out of
     /// memory, or one was, it closes the desk and fails.
     pub fn end<R: Wait>(mut self, rt: &R) -> Result<Desk<N>, NoMemory>
         ensures ok { IfOk result (λ desk.

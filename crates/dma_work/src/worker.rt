@@ -15,7 +15,7 @@ use dma_engine::{EngineFault, Turn};
 use std::marker::{Model, PhantomData};
 use std::sync::{Mutex, MutexGuard, Wait};
 
-/// What was done through a desk.
+/// Counts of what was done through a desk, by one worker or by all.
 #[derive(Clone, Copy, Default, PartialEq, Eq)]
 pub struct Totals {
     /// The number of steps that executed an instruction or finished a cookie.
@@ -26,7 +26,7 @@ pub struct Totals {
     pub terminated: u64,
 }
 
-/// A worker's counts of the steps that it took of the desk that N names. They start at 0, only the step of that desk
+/// A worker's counts of the steps that it took of the desk with this name. They start at 0, only the step of that desk
 /// increases them, and a tally can't be copied.
 #[derive(Drop)]
 pub struct Tally<N: DeskName> {
