@@ -23,7 +23,7 @@ pub mod rows;
 mod saving;
 pub mod turns;
 
-/// The manager thread.
+/// The manager, which is the thread that starts the channels.
 #[derive(Clone, Copy)]
 pub struct Manager {
     /// Whether it is faulting; else it is stopped.

@@ -17,17 +17,22 @@ use dma_mem::no_memory::NoMemory;
 use dma_mem::regions::Region;
 use std::alloc::Global;
 
-/// Faults that the device itself finds, by their bits in FTRD and FTR (DMA-330 manual, fault type registers). For those
-/// that a step returns see `FaultKind::bit`.
+// Faults that the device itself finds, by their bits in FTRD and FTR (DMA-330 manual, fault type registers). For those
+// that a step returns see `FaultKind::bit`.
+
+/// The debug instruction is none of those that the manager, or a channel, executes from the debug registers.
 pub const UNDEF_INSTR: u32 = 1 << 0;
 
+/// The instruction has an operand that the device doesn't accept, such as an event that it doesn't have.
 pub const OPERAND_INVALID: u32 = 1 << 1;
 
+/// A non-secure manager was to start a secure channel by DMAGO.
 pub const DMAGO_ERR: u32 = 1 << 4;
 
 /// The instruction came from the debug registers.
 pub const DBG_INSTR: u32 = 1 << 30;
 
+/// The program has executed as many instructions as a channel counts, 2^32 - 1 (profile).
 pub const LOCKUP_ERR: u32 = 1 << 31;
 
 /// The status of a channel thread.

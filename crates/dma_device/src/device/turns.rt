@@ -12,7 +12,7 @@ use dma_mem::events::Events;
 use dma_mem::regions::Region;
 use dma_mem::segment::Segment;
 
-/// What a turn did.
+/// What a turn did, so that an emulator knows which bytes have changed, and whether an interrupt line has.
 #[derive(Clone, Copy)]
 pub struct Turn {
     /// The range that it wrote. Each address in it was written, and no other was.

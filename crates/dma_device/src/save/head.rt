@@ -18,7 +18,8 @@ const MAGIC: [u8; 7] = [100, 109, 97, 51, 51, 48, 1];
 // The version of the format.
 const VERSION: u8 = 1;
 
-/// What a save has before its threads.
+/// What the save of a device has before its channel threads: the configuration, the manager, and the registers that
+/// belong to no thread.
 #[derive(Clone, Copy)]
 pub struct Head {
     pub config: Config,
