@@ -92,30 +92,30 @@ pub const CUT_INSTRUCTION: i32 = -35;
 pub const UNKNOWN_INSTRUCTION: i32 = -36;
 /// A field of an instruction is outside its range.
 pub const BAD_FIELD: i32 = -37;
-/// The program isn't explained.
+/// Nothing explains the program. The cause, which the call writes too, says why.
 pub const UNEXPLAINED: i32 = -38;
 
-// What the last of some steps did.
+// What the last of some steps did. Reports to C have these numbers.
 
-/// None was taken.
+/// No step was taken.
 pub const NO_STEP: u32 = 0;
-/// An instruction was executed.
+/// The last step executed an instruction.
 pub const MOVED: u32 = 1;
-/// It waits for an event.
+/// The channel waits for an event.
 pub const WAITING: u32 = 2;
-/// It was DMAEND.
+/// The last step executed DMAEND, so the program has ended.
 pub const ENDED: u32 = 3;
-/// It failed.
+/// The instruction of the last step failed.
 pub const FAULT: u32 = 4;
-/// It set a flag.
+/// The last step set the flag of an event.
 pub const SIGNALLED: u32 = 5;
 /// The next transfer began to run.
 pub const STARTED: u32 = 6;
 /// The transfer finished.
 pub const FINISHED: u32 = 7;
-/// No transfer is issued and unfinished.
+/// The channel has nothing to do: no transfer is issued and unfinished.
 pub const NOTHING: u32 = 8;
-/// The next transfer conflicts with a running one.
+/// The next transfer can't start, because it conflicts with a running one.
 pub const HELD: u32 = 9;
 /// The channel is paused.
 pub const PAUSED: u32 = 10;
