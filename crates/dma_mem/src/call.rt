@@ -5,7 +5,8 @@ use crate::marks::MarkKind;
 use crate::segment::Segment;
 use crate::transfer::Transfer;
 
-/// A call on an engine. Each variant calls the method of the same name.
+/// A call on an engine as a value, so that calls can be kept in a list and executed later. Each variant calls the
+/// method of the same name.
 #[derive(Drop)]
 pub enum Call {
     /// `write`

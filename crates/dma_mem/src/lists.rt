@@ -22,7 +22,7 @@ enum StoredBytes {
     Long(Box<Vec<u8>>),
 }
 
-/// A list of bytes.
+/// A list of bytes, such as those of a write. Up to 22 are kept in the value itself, so a short list takes no memory.
 #[derive(Drop)]
 pub struct Bytes {
     stored: StoredBytes,
@@ -116,7 +116,7 @@ enum StoredSegments {
     Many(Box<Vec<Segment>>),
 }
 
-/// A list of segments.
+/// A list of segments, such as the sources of a transfer. One segment is kept in the value itself and takes no memory.
 #[derive(Drop)]
 pub struct Segments {
     alloc: Global,

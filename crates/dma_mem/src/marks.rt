@@ -12,7 +12,7 @@ use crate::segment::Segment;
 use std::alloc::Global;
 use std::marker::Model;
 
-/// Whether loads or stores fail at a mark.
+/// Whether loads or stores fail at a mark. Tests of drivers set marks to see how a driver treats a failed transfer.
 #[derive(Clone, Copy, Debug, PartialEq, Eq)]
 pub enum MarkKind {
     Reading,

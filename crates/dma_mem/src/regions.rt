@@ -19,7 +19,8 @@ use crate::table::put_bytes;
 // The largest end of a region: the end of the 32-bit addresses.
 const LARGEST_END: u64 = 1 << 32;
 
-/// A part of a caller's memory.
+/// A piece of a caller's memory, with the address at which the guest sees it. A call that is given it may use its bytes
+/// until the call returns.
 #[repr(C)]
 #[derive(Drop)]
 pub struct Region<'a> {
