@@ -97,7 +97,8 @@ impl Next {
         }
     }
 
-    /// Returns the same in the grammar of the model alone.
+    /// Returns the instruction at an offset of a program in the grammar of the model alone, or the fault of fetching
+    /// it.
     #[inline(always)]
     pub fn at(program: &[u8], pc: u32) -> Result<Next, FaultKind>
         requires offset { pc ≤ length program.now }

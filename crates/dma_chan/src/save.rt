@@ -18,7 +18,7 @@ use thiserror::Error;
 
 pub(crate) mod head;
 
-/// The most bytes of a save.
+/// The most bytes that a save of a channel has: room for so many is enough for each.
 pub const MAX_SAVE: usize = 8500;
 
 /// Why a channel wasn't restored.

@@ -43,7 +43,7 @@ impl FaultKind {
     }
 }
 
-/// The result of a step.
+/// What one step of a channel did with its next instruction.
 #[derive(Clone, Copy, PartialEq, Eq)]
 pub enum ChanTurn {
     /// The instruction was executed.
