@@ -11,7 +11,7 @@ use dma_mem::transfer::Transfer;
 use std::alloc::Global;
 use std::marker::Model;
 
-/// The state of a channel in a base.
+/// The state of a channel in a base, from which its history begins.
 #[derive(Drop)]
 pub struct BaseChannel {
     // how many cookies are finished

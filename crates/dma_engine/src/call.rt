@@ -6,7 +6,7 @@ use crate::turn::{Status, Turn};
 pub use dma_mem::call::Call;
 use dma_mem::lists::Bytes;
 
-/// The reply to a call.
+/// The reply to a call that was made as a value ([`Call`]): what the method of the same name returns.
 #[derive(Drop)]
 pub enum Reply {
     /// The call was a write, a mark, an unmark, a raise, a pause, a resume or a checkpoint, and it was done.

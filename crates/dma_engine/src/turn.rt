@@ -39,7 +39,7 @@ pub enum Turn {
     },
 }
 
-/// The result of consecutive steps of a channel.
+/// What consecutive steps of a channel did, which one call of [`Engine::advance`](crate::Engine::advance) took.
 #[derive(Clone, Copy)]
 pub struct Advanced {
     /// The cookie of the transfer that the first step started, if it started one.
@@ -51,7 +51,7 @@ pub struct Advanced {
     pub last: Option<Result<Turn, EngineFault>>,
 }
 
-/// The status of a cookie.
+/// Whether a cookie was given and has finished, in the terms in which a driver of Linux asks for it.
 #[derive(Clone, Copy, Debug, PartialEq, Eq)]
 pub enum Status {
     /// No such cookie was given (profile).
@@ -79,7 +79,7 @@ impl Status {
     }
 }
 
-/// What runs on a channel.
+/// The transfer that runs on a channel, and how far it is.
 #[repr(C)]
 #[derive(Clone, Copy, Debug, PartialEq, Eq)]
 pub struct Running {
