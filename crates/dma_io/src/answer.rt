@@ -8,7 +8,7 @@ use crate::output::{OutputFailed, Sink, write_output};
 use dma_text::text::{Text, print};
 use std::alloc::{AllocError, Global};
 
-/// What a call prints.
+/// What a call of a program prints, before any of it is written, and whether the call succeeds.
 #[derive(Drop)]
 pub struct Answer {
     /// To standard output.
