@@ -72,7 +72,7 @@ impl Text for Fault {
     }
 }
 
-/// Why something was not read.
+/// Why a line or a script was not read.
 #[derive(Clone, Copy, PartialEq, Eq)]
 pub enum ReadError<F> {
     /// It has a fault.

@@ -4,7 +4,7 @@ ghost use Rattle.dma_script.specs.Interpreted.{PrintsLine};
 
 use std::alloc::AllocError;
 
-/// An interpreter of the lines of a script.
+/// Runs the lines of a script, one after another, and prints what each of them says.
 pub trait Interpreter {
     ghost use Rattle.std.specs.Prelude.{ℕ, List};
 

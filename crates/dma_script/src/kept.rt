@@ -10,7 +10,7 @@ use dma_mem::segment::Segment;
 use std::alloc::{AllocError, Global};
 use std::marker::Model;
 
-/// A value behind a pointer. Contracts see the value.
+/// A value behind a pointer, so that a line of a script that has it stays small. Contracts see the value.
 #[derive(Drop)]
 pub struct Boxed<T> {
     stored: Box<T>,
@@ -102,7 +102,7 @@ pub(crate) enum Kept {
     Checkpoint,
 }
 
-/// The call of a line. Contracts see the call.
+/// The call of a line, which is kept in few bytes until the line is executed. Contracts see the call.
 #[derive(Drop)]
 pub struct KeptCall {
     pub(crate) kept: Kept,

@@ -7,7 +7,7 @@ use crate::interpreter::Interpreter;
 use std::alloc::{AllocError, Global};
 use std::marker::Model;
 
-/// A list. Contracts see only its items.
+/// A list of the lines or the jobs of a script. Contracts see only its items.
 #[derive(Drop)]
 pub struct List<T> {
     items: Vec<T>,

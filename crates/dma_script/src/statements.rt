@@ -21,7 +21,7 @@ use dma_text::bytes::is_text;
 use std::alloc::Global;
 use std::marker::Model;
 
-/// The word that begins a line.
+/// The word that begins a line of a run script, and says what the line does.
 #[derive(Clone, Copy)]
 pub enum Keyword {
     /// `memory SIZE CHANNELS`
