@@ -35,7 +35,7 @@ pub struct Repeated {
     pub times: u32,
 }
 
-/// What an instruction does with an event.
+/// Whether an instruction waits for an event or signals it, and which event.
 #[derive(Clone, Copy)]
 pub enum EventSync {
     /// DMAWFE waits for the event.
@@ -51,7 +51,7 @@ pub struct Amounts {
     pub cleared: u64,
 }
 
-/// A DMAWFE or DMASEV that a program executes, and what it has done before.
+/// A DMAWFE or DMASEV that a program executes, and how many bytes the program has copied and set to 0 before it.
 #[derive(Clone, Copy)]
 pub struct Happening {
     pub sync: EventSync,
@@ -87,7 +87,7 @@ pub struct Explained {
     pub late: Option<u32>,
 }
 
-/// Why nothing explains a program. In all but `Fails`, a DMASTZ is a store too.
+/// Why nothing explains a program. Where a cause speaks of a store, it may be a DMASTZ too, except in `Fails`.
 #[derive(Clone, Copy, PartialEq, Eq)]
 pub enum Cause {
     /// The program has more than [`MAX_PROGRAM_BYTES`].
