@@ -20,7 +20,7 @@ use dma_insn::chip::ChipInsn;
 use dma_insn::insn::{Counter, Times};
 use std::alloc::Global;
 
-/// The program so far.
+/// The program that the lines of a text have made so far, with its labels and the loops that are still open.
 #[derive(Drop)]
 pub struct Draft {
     pub code: Vec<u8>,

@@ -69,7 +69,7 @@ pub enum Place {
     Array(ArrayPlace),
 }
 
-/// How far a dump is read.
+/// How far a dump is read, and what the lines before have shown of it.
 #[derive(Clone, Copy)]
 pub struct Scan {
     pub place: Place,

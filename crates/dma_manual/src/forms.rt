@@ -37,7 +37,7 @@ pub enum Group {
     Octal,
 }
 
-/// The form of a dump.
+/// The form of a dump: what its lines have around their groups, and how a group spells its bytes.
 #[derive(Clone, Copy)]
 pub struct Form {
     pub column: Column,

@@ -43,7 +43,7 @@ pub enum Again {
     If(Request),
 }
 
-/// What a line says.
+/// What a line of assembly text says.
 #[derive(Drop)]
 pub enum Statement {
     Nothing,
