@@ -15,7 +15,8 @@ use dma_insn::chip::ChipInsn;
 use dma_text::text::Text;
 use std::alloc::AllocError;
 
-/// A channel at an instruction. `answer` is that of the run's last step, made here; `None` before the end.
+/// A channel at an instruction, as the waveform shows it. At the end of a run `answer` is what the last step answered
+/// at this instruction. Before the end it is `None`.
 #[derive(Clone, Copy)]
 pub struct Moment {
     pub at: Point,

@@ -351,7 +351,7 @@ impl Text for Uses<'_> {
     }
 }
 
-/// Why an instruction is part of no work.
+/// Why nothing explains a program, as a text about the instruction that is to blame.
 #[derive(Drop)]
 pub struct Why<'a> {
     pub cause: Cause,
