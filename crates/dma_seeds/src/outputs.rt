@@ -12,7 +12,7 @@ use dma_script::words::split_script_line;
 use dma_text::text::{Text, print};
 use std::alloc::AllocError;
 
-/// An output of a race, from the line of `go` on.
+/// An output of a race, from the line of `go` on, and how many seeds give it.
 #[derive(Drop)]
 pub struct Output {
     /// The output.
