@@ -12,7 +12,7 @@ use dma_mem::transfer::Transfer;
 use dma_text::text::Text;
 use std::alloc::{AllocError, Global};
 
-/// A cookie of a channel.
+/// A cookie with its channel, since each channel counts its cookies from 1.
 #[derive(Clone, Copy)]
 pub struct Cookie {
     /// The channel.
