@@ -22,15 +22,15 @@ pub record Go : Type 0 where
   pub channel : ℕ
   pub nonsecure : Bool
 
--- the registers of its channel before it; if the device doesn't have the channel, those after a reset
+-- the registers of a DMAGO's channel before it; if the device doesn't have the channel, those after a reset
 abbrev pub start_of : Go → Registers
 start_of go = (slice_index_or go.device.threads go.channel (reset_thread go.device.config.bus)).channel.registers
 
--- the bus of its channel, which is the device's (`IsDeviceValue`)
+-- the bus of a DMAGO's channel, which is the device's (`IsDeviceValue`)
 abbrev pub bus_of : Go → Bus
 bus_of go = (start_of go).bus
 
--- what it writes to DBGINST0: the manager is to execute a DMAGO of the channel
+-- what a guest writes to DBGINST0, so that the manager executes a DMAGO of the channel
 abbrev pub dmago_word : Go → ℕ
 dmago_word go = (0xA0 + 2 * flag go.nonsecure) * 2 ^ 16 + go.channel * 2 ^ 24
 

@@ -51,8 +51,8 @@ manager_fails d opcode byte =
     if opcode == 0xA0 then go_fails d false (slice_get d.threads byte) else (
     if opcode == 0xA2 then go_fails d true (slice_get d.threads byte) else true)))
 
--- whether one fails if a channel thread executes it from the debug registers: any but DMAKILL, and a DMASEV of an event
--- that the device has
+-- Whether an instruction fails if a channel thread executes it from the debug registers: any but DMAKILL, and a DMASEV
+-- of an event that the device has.
 abbrev pub channel_fails : DeviceValue → ℕ → ℕ → Bool
 channel_fails d opcode byte =
     if opcode == 0x01 then false else (if opcode == 0x34 then not (is_event d byte) else true)
