@@ -192,27 +192,27 @@ found_code missing (Some x) = ok_code
 
 -- ---- what the last of some steps did
 
--- none was taken
+-- no step was taken
 abbrev pub no_step : ℕ
 no_step = 0
 
--- an instruction was executed
+-- the last step executed an instruction
 abbrev pub step_moved : ℕ
 step_moved = 1
 
--- it waits for an event
+-- the channel waits for an event
 abbrev pub step_waits : ℕ
 step_waits = 2
 
--- it was DMAEND
+-- the last step executed DMAEND
 abbrev pub step_ended : ℕ
 step_ended = 3
 
--- it failed
+-- the instruction of the last step failed
 abbrev pub step_failed : ℕ
 step_failed = 4
 
--- it set a flag
+-- the last step set the flag of an event
 abbrev pub step_signalled : ℕ
 step_signalled = 5
 
@@ -228,7 +228,7 @@ step_finished = 7
 abbrev pub step_nothing : ℕ
 step_nothing = 8
 
--- the next transfer conflicts with a running one
+-- the next transfer can't start, because it conflicts with a running one
 abbrev pub step_held : ℕ
 step_held = 9
 

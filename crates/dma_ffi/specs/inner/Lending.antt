@@ -19,7 +19,7 @@ use Rattle.dma_ffi.specs.contracts.marked_channel.MarkedChannel.{the_row as chan
 abbrev pub LendsValue : (R : RattleType) → MutBor (HeapPointer R.Denot) → MutBor R.Denot → Fml
 LendsValue R s r = Lends (heap_pointer_row R) R s r (λ w. record (s.now) { value = Some w })
 
--- an open one with the value `w`
+-- a kept value that is open and has the value `w`
 abbrev pub holding : (R : RattleType) → Kept R.Denot → R.Denot → Kept R.Denot
 holding R k w = record { at = record (k.at) { value = Some w }; is_open = true; holds = (λ _. refl, λ _. refl) }
 
@@ -31,7 +31,7 @@ LendsKept R s r = LendsIf (kept_row R) R s r (holding R (s.now)) (s.now)
 abbrev pub as_controller : Kept EngineState → Controller
 as_controller k = record { engine = record { at = k.at.at; value = k.at.value }; is_open = k.is_open; holds = k.holds }
 
--- the other way round
+-- a controller as a kept engine
 abbrev pub of_controller : Controller → Kept EngineState
 of_controller c =
     record { at = record { at = c.engine.at; value = c.engine.value }; is_open = c.is_open; holds = c.holds }
@@ -40,7 +40,7 @@ of_controller c =
 abbrev pub LendsController : MutBor Controller → MutBor (Kept EngineState) → Fml
 LendsController s r = Lends controller_row (kept_row engine_row) s r as_controller
 
--- it lends its engine, if any
+-- a controller lends its engine, if it has one
 abbrev pub LendsEngine : MutBor Controller → Option (MutBor EngineState) → Fml
 LendsEngine s r =
     LendsIf controller_row engine_row s r (λ w. as_controller (holding engine_row (of_controller (s.now)) w)) (s.now)
@@ -49,7 +49,7 @@ LendsEngine s r =
 abbrev pub as_channel : Kept MarkedChannel → KeptChannel
 as_channel k = record { channel = record { at = k.at.at; value = k.at.value }; is_open = k.is_open; holds = k.holds }
 
--- the other way round
+-- a channel in the form for C as a kept one
 abbrev pub of_channel : KeptChannel → Kept MarkedChannel
 of_channel c =
     record { at = record { at = c.channel.at; value = c.channel.value }; is_open = c.is_open; holds = c.holds }
@@ -58,7 +58,7 @@ of_channel c =
 abbrev pub LendsKeptChannel : MutBor KeptChannel → MutBor (Kept MarkedChannel) → Fml
 LendsKeptChannel s r = Lends kept_channel_row (kept_row channel_row) s r as_channel
 
--- it lends its channel, if any
+-- a channel in the form for C lends its channel, if it has one
 abbrev pub LendsChannel : MutBor KeptChannel → Option (MutBor MarkedChannel) → Fml
 LendsChannel s r =
     LendsIf kept_channel_row channel_row s r (λ w. as_channel (holding channel_row (of_channel (s.now)) w)) (s.now)
@@ -67,7 +67,7 @@ LendsChannel s r =
 abbrev pub as_device : Kept DeviceValue → KeptDevice
 as_device k = record { device = record { at = k.at.at; value = k.at.value }; is_open = k.is_open; holds = k.holds }
 
--- the other way round
+-- a device in the form for C as a kept one
 abbrev pub of_device : KeptDevice → Kept DeviceValue
 of_device c =
     record { at = record { at = c.device.at; value = c.device.value }; is_open = c.is_open; holds = c.holds }
@@ -76,7 +76,7 @@ of_device c =
 abbrev pub LendsKeptDevice : MutBor KeptDevice → MutBor (Kept DeviceValue) → Fml
 LendsKeptDevice s r = Lends kept_device_row (kept_row device_row) s r as_device
 
--- it lends its device, if any
+-- a device in the form for C lends its device, if it has one
 abbrev pub LendsDevice : MutBor KeptDevice → Option (MutBor DeviceValue) → Fml
 LendsDevice s r =
     LendsIf kept_device_row device_row s r (λ w. as_device (holding device_row (of_device (s.now)) w)) (s.now)
