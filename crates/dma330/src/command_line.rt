@@ -5,7 +5,7 @@ use clap::error::ErrorKind;
 use clap::{ArgMatches, Command, Error};
 use dma_chan::bus::{Bus, BusWidth};
 use dma_explain::explain::known::Given;
-use dma_io::hexadecimal::Notation;
+use dma_manual::hexadecimal::Notation;
 use dma_manual::pasted::Spelling;
 use dma_mem::segment::Segment;
 use dma_seeds::seeds::SeedRange;

@@ -1,7 +1,7 @@
 //! The program `dma330`: a workbench for channel programs.
 //!
 //! Proved: the answer to a request is a function of its input (`answer`), also if that is hexadecimal text
-//! (`read_hexadecimal` of `dma_io`); unless a write fails, what standard output and standard error get, and the
+//! (`read_hexadecimal` of `dma_manual`); unless a write fails, what standard output and standard error get, and the
 //! status, are those of the answer (`deliver` of `dma_io`). Not proved: `main`, which reads the command line and
 //! the files, writes the file that an option names, and shows progress.
 #![tactic(auto)]

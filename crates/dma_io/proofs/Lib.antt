@@ -1,5 +1,4 @@
--- Lemmas on how a command ends, on the rows of a program and on hexadecimal text; worked rows.
+-- Lemmas on how a command ends and on the rows of a program; worked rows.
 mod EndLemmas
-mod HexadecimalLemmas
 mod RowLemmas
 mod Rows

@@ -17,6 +17,7 @@ mod OneDump
 mod Rows
 mod Runs
 mod ReadBack
+mod HexadecimalLemmas
 mod DumpDigits
 mod DumpLines
 mod DumpTexts

@@ -14,6 +14,9 @@ pub mod Refusal
 pub mod Notes
 pub mod Forms
 pub mod Array
+pub mod Addresses
+pub mod Hexadecimal
+pub mod DigitFaults
 pub mod Dump
 pub mod Pasted
 pub mod Printed

@@ -13,8 +13,8 @@ use Rattle.dma_manual.specs.declared.doubts.Doubt.TheVariants.{Address as NoAddr
 use Rattle.dma_manual.specs.{declared.dump.Place.Place, declared.dump.Scan.Scan, declared.forms.Column.Column, declared.forms.Group.Group}
 use Rattle.dma_manual.specs.{declared.forms.Form.Form, declared.pasted.Fault.Fault, declared.pasted.Refused.Refused, declared.pasted.Spelling.Spelling}
 use Rattle.dma_manual.specs.{declared.pasted.Spelling.TheVariants.Digits, declared.pasted.Spelling.TheVariants.Dump}
-use Rattle.dma_io.specs.declared.hexadecimal.Notation.TheVariants.{Pairs, Words}
-use Rattle.dma_io.specs.{Hexadecimal.spelled, declared.hexadecimal.Notation.Notation}
+use Rattle.dma_manual.specs.declared.hexadecimal.Notation.TheVariants.{Pairs, Words}
+use Rattle.dma_manual.specs.{Hexadecimal.spelled, declared.hexadecimal.Notation.Notation}
 use Rattle.dma_manual.specs.declared.dump.Cause.TheVariants.{Byte as BadByte, Address as BadAddress, Star, Long as TooLong}
 use Rattle.dma_manual.specs.declared.dump.Effect.TheVariants.{Nothing, Number, Element as Ends, Cut}
 use Rattle.dma_manual.specs.declared.dump.Place.TheVariants.{Start, Title, Array as InArray}

@@ -1,7 +1,8 @@
 -- What is printed for a text that spells no program (profile).
 use Rattle.std.specs.Prelude.{ℕ, false, if◌then◌else◌, List, [], ◌++◌, Option, Some, codes, slice_get}
 use Rattle.dma_text.specs.Digits.{hex_pair}
-use Rattle.dma_io.specs.{Answer.Prints, Faults.fault_message, Faults.place_text}
+use Rattle.dma_io.specs.{Answer.Prints}
+use Rattle.dma_manual.specs.{DigitFaults.fault_message, DigitFaults.place_text}
 use Rattle.dma_manual.specs.declared.pasted.Refused.TheVariants.{Digits, Dump, Unsure}
 use Rattle.dma_manual.specs.{declared.dump.Cause.Cause, declared.doubts.Doubt.Doubt, declared.pasted.Fault.Fault, declared.pasted.Refused.Refused}
 use Rattle.dma_manual.specs.declared.doubts.Doubt.TheVariants as doubts

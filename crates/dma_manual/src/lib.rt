@@ -15,10 +15,12 @@
 //! allocation succeeds.
 #![tactic(auto)]
 
+mod addresses;
 pub mod array;
 pub mod assembler;
 pub mod chip_only;
 mod codec;
+mod digit_faults;
 pub mod doubts;
 mod draft;
 pub mod dump;
@@ -26,6 +28,7 @@ pub mod errors;
 mod fields;
 pub mod first_bytes;
 pub mod forms;
+pub mod hexadecimal;
 pub mod insns;
 pub mod laws;
 mod line_contents;

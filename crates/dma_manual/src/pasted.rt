@@ -8,8 +8,8 @@ use crate::array::{ArrayPlace, is_of_array};
 use crate::doubts::{Doubt, doubt_of, is_marked};
 use crate::dump::{Cause, Effect, Place, Scan};
 use crate::forms::{Column, Form, Group, bytes_first, plain_forms, words_first};
+use crate::hexadecimal::{Notation, read_hexadecimal};
 use crate::notes::ends_at_once;
-use dma_io::hexadecimal::{Notation, read_hexadecimal};
 use std::alloc::{AllocError, Global};
 
 /// The most bytes that a dump has.

@@ -3,11 +3,11 @@ ghost use Rattle.std.specs.Prelude.{◌≡◌, ◌++◌, IfOk, OnOk};
 ghost use Rattle.dma_io.specs.Answer.{prints_of};
 ghost use Rattle.dma_manual.specs.Refusal.{at_fault, cause_message, doubt_message, dump_message, refusal};
 
+use crate::digit_faults::{digits_message, placed};
 use crate::doubts::Doubt;
 use crate::dump::Cause;
 use crate::pasted::{Fault, Refused};
 use dma_io::answer::Answer;
-use dma_io::faults::{digits_message, placed};
 use dma_text::text::{HexByte, print};
 use std::alloc::{AllocError, Global};
 

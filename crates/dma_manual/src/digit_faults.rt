@@ -1,6 +1,6 @@
 //! What is printed for hexadecimal text with a fault.
 ghost use Rattle.std.specs.Prelude.{◌≡◌, ◌++◌, IfOk, slice_get};
-ghost use Rattle.dma_io.specs.Faults.{byte_message, end_message, fault_message, pair_message, place_text, word_message};
+ghost use Rattle.dma_manual.specs.DigitFaults.{byte_message, end_message, fault_message, pair_message, place_text, word_message};
 
 use crate::addresses::is_digit;
 use crate::hexadecimal::{Notation, column_of, is_gap, line_of};

@@ -1,6 +1,6 @@
 //! Leaves the addresses of a dump out of its text.
 ghost use Rattle.std.specs.Prelude.{◌≡◌, IfOk, length};
-ghost use Rattle.dma_io.specs.Addresses.{closes_symbol, ends_address, is_address, is_address_after, is_digit, without_addresses};
+ghost use Rattle.dma_manual.specs.Addresses.{closes_symbol, ends_address, is_address, is_address_after, is_digit, without_addresses};
 
 use dma_text::digits::digit_value;
 use std::alloc::{AllocError, Global};

@@ -3,8 +3,8 @@ use Rattle.std.proofs.Common.{arith}
 use Rattle.std.proofs.Common.{◌≡◌, sym, ◌∙◌, ℕ, ◌+◌, ◌<◌, List, ◌∷◌, ◌++◌, drop, length, slice_index_or, Option, Some, Result, Ok, Err}
 use Rattle.std.proofs.lemmas.List.{append_assoc, at_drop_more}
 use Rattle.dma_text.specs.Results.{◌>>=◌}
-use Rattle.dma_io.specs.Hexadecimal.{next_of, number_bytes, read_from}
-use Rattle.dma_io.specs.{declared.hexadecimal.Notation.Notation, declared.hexadecimal.Reading.Reading}
+use Rattle.dma_manual.specs.Hexadecimal.{next_of, number_bytes, read_from}
+use Rattle.dma_manual.specs.{declared.hexadecimal.Notation.Notation, declared.hexadecimal.Reading.Reading}
 
 -- the bytes of a text behind these
 abbrev pub followed : List ℕ → Result (List ℕ) ℕ → Result (List ℕ) ℕ

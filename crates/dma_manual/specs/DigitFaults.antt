@@ -1,8 +1,8 @@
 -- What is printed for hexadecimal text with a fault (profile).
 use Rattle.std.specs.Prelude.{ℕ, ◌==◌, ◌||◌, if◌then◌else◌, List, ◌++◌, Option, Some, None, codes, decimal}
 use Rattle.dma_text.specs.Digits.{hex_pair}
-use Rattle.dma_io.specs.{Addresses.is_digit, Hexadecimal.column_of, Hexadecimal.is_gap, Hexadecimal.line_of, declared.hexadecimal.Notation.Notation}
-use Rattle.dma_io.specs.{declared.hexadecimal.Notation.TheVariants.Pairs, declared.hexadecimal.Notation.TheVariants.Words}
+use Rattle.dma_manual.specs.{Addresses.is_digit, Hexadecimal.column_of, Hexadecimal.is_gap, Hexadecimal.line_of, declared.hexadecimal.Notation.Notation}
+use Rattle.dma_manual.specs.{declared.hexadecimal.Notation.TheVariants.Pairs, declared.hexadecimal.Notation.TheVariants.Words}
 
 -- What is wrong with a byte of a text of pairs. A digit is refused only after a pair that has a mark.
 abbrev pub pair_message : ℕ → List ℕ

@@ -1,6 +1,6 @@
 //! Reads bytes from hexadecimal text.
 ghost use Rattle.std.specs.Prelude.{◌≡◌, ◌<◌, ◌≤◌, ◌++◌, Err, IfOk, MatchResult, Ok, OnOk, length, take};
-ghost use Rattle.dma_io.specs.Hexadecimal.{between, column_of, is_gap, is_whole, line_of, may_follow, next_digit, next_of, number_bytes, read_from, size_of, spelled};
+ghost use Rattle.dma_manual.specs.Hexadecimal.{between, column_of, is_gap, is_whole, line_of, may_follow, next_digit, next_of, number_bytes, read_from, size_of, spelled};
 
 use crate::addresses::{is_digit, without_addresses};
 use dma_text::digits::digit_value;

@@ -6,9 +6,9 @@ use Rattle.std.specs.Prelude.{ℕ, ◌+◌, ◌*◌, ◌%◌, ◌^◌, Bool, tru
 use Rattle.std.specs.Prelude.{Some, None, Result, Ok, Err, count_by, fold}
 use Rattle.std.specs.{Char.digit_value, Int.w32, Int.to_le_bytes, Option.ok_or}
 use Rattle.dma_text.specs.Results.{◌>>=◌}
-use Rattle.dma_io.specs.declared.hexadecimal.Reading.TheVariants.{Between, Comment, Number}
-use Rattle.dma_io.specs.{Addresses.is_digit, Addresses.without_addresses, declared.hexadecimal.Notation.Notation}
-use Rattle.dma_io.specs.{declared.hexadecimal.Notation.TheVariants.Pairs, declared.hexadecimal.Notation.TheVariants.Words, declared.hexadecimal.Reading.Reading}
+use Rattle.dma_manual.specs.declared.hexadecimal.Reading.TheVariants.{Between, Comment, Number}
+use Rattle.dma_manual.specs.{Addresses.is_digit, Addresses.without_addresses, declared.hexadecimal.Notation.Notation}
+use Rattle.dma_manual.specs.{declared.hexadecimal.Notation.TheVariants.Pairs, declared.hexadecimal.Notation.TheVariants.Words, declared.hexadecimal.Reading.Reading}
 
 -- a space, a tab, a carriage return, a line feed or a comma
 abbrev pub is_gap : ℕ → Bool

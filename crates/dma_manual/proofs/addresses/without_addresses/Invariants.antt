@@ -1,7 +1,7 @@
 -- The bytes so far and those of the rest are the whole text.
 use Rattle.std.proofs.Common.{◌≡◌, ◌++◌, drop, length}
-use Rattle.dma_io.specs.Addresses.{blanked, without_addresses}
-use Rattle.dma_io.proofs.addresses.without_addresses.Given as goal
+use Rattle.dma_manual.specs.Addresses.{blanked, without_addresses}
+use Rattle.dma_manual.proofs.addresses.without_addresses.Given as goal
 
 abbrev pub invariant-loop-at : goal.invariant-loop-at
 invariant-loop-at l =
