@@ -150,36 +150,27 @@ impl<N: DeskName> Shift<N> {
     }
 }
 
-// What all workers of a shift use.
-#[derive_where(Clone, Copy)]
-struct Crew<'a, N: DeskName, R> {
-    rt: &'a R,
-    shift: &'a Mutex<Shift<N>>,
+// Takes the turns of a worker's job, at most 2^64 - 1, and holds the lock for each of them.
+fn work<N: DeskName, R: Wait>(rt: &R, shift: &Mutex<Shift<N>>, worker: usize) {
+    for _ in 0..u64::MAX {
+        let mut guard = shift.lock(rt);
+        let is_taken = guard.turn(rt, worker);
+        MutexGuard::unlock(guard);
+        if !is_taken {
+            return;
+        }
+    }
 }
 
-impl<'a, N: DeskName + Send + Sync, R: Threads + Wait + Sync> Crew<'a, N, R> {
-    // Takes the turns of a worker's job, at most 2^64 - 1, and holds the lock for each of them.
-    fn work(self, worker: usize) {
-        for _ in 0..u64::MAX {
-            let mut shift = self.shift.lock(self.rt);
-            let is_taken = shift.turn(self.rt, worker);
-            MutexGuard::unlock(shift);
-            if !is_taken {
-                return;
-            }
-        }
-    }
-
-    // Starts a thread for a worker, if one can be started.
-    fn begin<E>(self, scope: &Scope<'a, E>, worker: usize) {
-        let _ = scope.spawn(move || self.work(worker));
-    }
-
-    // Starts a thread for each worker.
-    fn begin_all<E>(self, scope: &Scope<'a, E>, workers: usize) {
-        for worker in 0..workers {
-            self.begin(scope, worker);
-        }
+// Starts a thread for each worker for which one can be started.
+fn begin_all<'a, N: DeskName + Send + Sync, R: Threads + Wait + Sync, E>(
+    scope: &Scope<'a, E>,
+    rt: &'a R,
+    shift: &'a Mutex<Shift<N>>,
+    workers: usize,
+) {
+    for worker in 0..workers {
+        let _ = scope.spawn(move || work(rt, shift, worker));
     }
 }
 
@@ -189,9 +180,11 @@ fn work_all<N: DeskName + Send + Sync, R: Threads + Wait + Sync>(
     shift: &Mutex<Shift<N>>,
     workers: usize,
 ) {
-    thread::scope(thread::scope_env(), rt, move |scope| {
-        Crew { rt, shift }.begin_all(scope, workers)
-    });
+    thread::scope(
+        thread::scope_env(),
+        rt,
+        move |scope| begin_all(scope, rt, shift, workers),
+    );
 }
 
 /// Takes all turns of a shift, those of each job in a thread of its own, and ends it. A job that gets no thread is done
