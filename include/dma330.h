@@ -1,5 +1,6 @@
-/* A software model of the ARM DMA-330 (PL330), a DMA controller, for copies between memories: for programs in C, from
- * C89 on, and in C++. Link it with libdma330.a. docs/PROOFS.md says what is proved of it, and what isn't.
+/* A software model of the ARM DMA-330 (PL330), a DMA controller, for copies between memories: for programs in C and in
+ * C++. It needs stdint.h, which came with C99 and C++11; the rest of the header is C89. Link it with libdma330.a.
+ * docs/PROOFS.md says what is proved of it, and what isn't.
  *
  * There are three kinds of things, for three uses. These are the calls of each with which to begin:
  * - A device has the registers of a PL330. Take it if a guest's driver writes registers: forward the guest's accesses
@@ -31,8 +32,8 @@
  *    a guest's running processors may read and write the bytes of regions. "Beside running processors" in
  *    docs/DEVICES.md says what they then see.
  * 7. 32 KiB of stack are free; the most that was measured is 28.
- * 8. malloc, realloc and free are one allocator. It aligns a block to 16 bytes, or to the largest power of two that
- *    divides the block's size, if that is less.
+ * 8. malloc, realloc and free are one allocator. It aligns each block to 16 bytes. A block whose size isn't a multiple
+ *    of 16 may have less: the largest power of two that divides its size.
  *
  * A call returns DMA330_OK, which is 0, or a negative code. (dma330_status returns a state in place of DMA330_OK.) The
  * comment of a call lists its codes, without DMA330_, in the order in which they are tested: the first that applies is
@@ -853,7 +854,8 @@ int32_t dma330_channel_restore(dma330_channel *channel, const uint8_t *save, siz
  * docs/DEVICES.md has it as code, and docs/CHIP.md lists what differs from the chip. Only dma330_device_open and
  * dma330_device_explain allocate. */
 
-/* Opens a device in its state after a reset. Codes: ALREADY_OPEN, BAD_CONFIG, NO_MEMORY. */
+/* Opens a device in its state after a reset. It takes a little more than 8,704 bytes for each channel: 8,192 for the
+ * longest program, and two buffers of 256. Codes: ALREADY_OPEN, BAD_CONFIG, NO_MEMORY. */
 int32_t dma330_device_open(dma330_device *device, const dma330_device_config *config) DMA330_NO_NULLS;
 
 /* Frees what an open device holds; it may be opened again. Does nothing if it isn't open. */
@@ -893,9 +895,9 @@ int32_t dma330_device_step(dma330_device *device, uint8_t channel, uint32_t most
 
 /* Lets a channel take several turns, one for each row, while it copies the rows of a rectangle. By dma330_device_step
  * each row takes a call, since the rows have gaps between them. The call finds rows in a loop that copies each of them
- * by pairs of DMALD and DMAST with bursts of the same length. At the end of a round, this loop adds to DAR by a
- * DMAADDH, and perhaps to SAR by another one before it, multiples of the beats' size. All rows lie after their sources,
- * or all before them.
+ * by pairs of DMALD and DMAST with bursts of the same length. At the end of a round, this loop adds a multiple of the
+ * beats' size to DAR, and perhaps before that one to SAR, each by a DMAADDH. Each row is stored above the place from
+ * which it was loaded, or each is stored below it.
  *
  * Elsewhere the call takes one turn, so it may always be made in place of dma330_device_step. Before this turn it looks
  * for rows in at most the next 300 instructions, or `most` if that is less. It doesn't execute these, so they aren't
@@ -930,7 +932,7 @@ int32_t dma330_device_explain(dma330_device *device, uint8_t channel, uint32_t m
 /* Writes the registers and counts of a device's channel. If the channel has failed, they are those from before the
  * instruction that failed, whatever the fault is. Say that dma330_device_explain explained the program before its first
  * turn, and that nobody else writes what the program reads or writes. Then `stored` says how far it is, also if the
- * channel waits or is faulting: of `dst` and `zeros` together this many bytes are done, of each list the first ones.
+ * channel waits or is faulting. That many bytes are done in all: a beginning of `dst`, and a beginning of `zeros`.
  * Codes: NO_CHANNEL. */
 int32_t dma330_device_registers(dma330_device *device, uint8_t channel, dma330_registers *registers) DMA330_NO_NULLS;
 
@@ -968,9 +970,10 @@ int32_t dma330_device_save(dma330_device *device, uint8_t *out, size_t room, siz
  * dma330_device_save and the next 8 aren't this version with this configuration: the device stays as it was. BAD_SAVE,
  * if anything else is wrong: the device is then in its state after a reset.
  *
- * In the save of a device, events, interrupts and INTEN have bits only of the device's events. A stopped channel has no
- * program; one that executes or waits has one. CPC of one that waits is the address of a DMAWFE of an event of the
- * device, and this channel has executed fewer than 4294967295 instructions. No beat in CCR is wider than the bus. */
+ * The restore also tests what holds of each save that a device wrote. Events, interrupts and INTEN have bits only of
+ * the device's events. A stopped channel has no program; one that executes or waits has one. CPC of one that waits is
+ * the address of a DMAWFE of an event of the device, and this channel has executed fewer than 4294967295 instructions.
+ * No beat in CCR is wider than the bus. */
 int32_t dma330_device_restore(dma330_device *device, const uint8_t *save, size_t len) DMA330_NO_NULLS;
 
 /* ---- programs of channels ----
