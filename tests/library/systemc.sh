@@ -28,7 +28,7 @@ with_systemc() {
     checks="-fsanitize=address,undefined -fno-sanitize=null,vptr,alignment,object-size -fno-sanitize-recover=all"
     if [ "${SANITIZERS:-}" = no ]; then
         checks=
-    elif ! { $CXX $checks -o "$out/probe" -x c++ "$out/probe.c" && "$out/probe"; } >/dev/null 2>&1; then
+    elif ! { $CXX $checks -o "$out/probe" -x c++ "$probe" && "$out/probe"; } >/dev/null 2>&1; then
         checks=
         echo "$CXX has no address and undefined-behaviour sanitizers: bindings/systemc/tests under them are left out"
     fi
