@@ -380,9 +380,9 @@ def lists_of(found, met):
         crate, _, at = law[0].partition("/")
         plain = " and ".join(f"`{it}`" for it in PARAMETERS[law][0])
         yield from wrapped(
-            f"No list follows {', '.join(first)} and {last} of `{crate}`. The law `{law[1]}` in its `{at}` describes "
-            f"them: {plain} in plain terms ({more} more lines), all clauses exactly ({lines} lines in "
-            f"{files} files)."
+            f"These counts stop at {', '.join(first)} and {last} of `{crate}`: neither they nor what they use is "
+            f"counted. The law `{law[1]}` in its `{at}` describes them: its clauses {plain} in plain terms "
+            f"({more} more lines), all of its clauses exactly ({lines} lines in {files} files)."
         )
         yield ""
     yield from ("All contracts lead to every file of `specs/`, and some of `inner/`:", "")

@@ -197,8 +197,8 @@ pub fn nothing_happens()
     ensures waits { WaitsInVain }
 {}
 
-/// A save in which one byte is another byte is the save of no device. So a restore refuses each save in which a bit is
-/// flipped.
+/// A save in which one byte is another byte is the save of no device. So a restore refuses each save in which one byte
+/// was damaged, by one flipped bit or by several.
 pub fn damage_is_refused()
     ensures { DamageIsRefused }
 {}

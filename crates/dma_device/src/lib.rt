@@ -15,8 +15,8 @@
 //! step (`laws::runs_step_by_step`). A turn writes each address in the range that it reports as written, and no other
 //! (`laws::a_turn_writes_each`). A save has the bytes that specs/Snapshot.antt gives the device, and restores it.
 //! `OtherDevice` is the error exactly for bytes that begin as a save of another version or configuration, and other
-//! bytes are refused exactly if they are the save of no device (`save`, `restore`), as is each save in which a bit is
-//! flipped (`laws::damage_is_refused`).
+//! bytes are refused exactly if they are the save of no device (`save`, `restore`), as is each save in which one byte
+//! differs (`laws::damage_is_refused`).
 //!
 //! A program that is explained from the registers that its channel has (`dma_explain`'s specs/Explains.antt), put into
 //! RAM and started by a DMAGO, makes one simultaneous copy and sets its other ranges to 0, whatever events it waits for
