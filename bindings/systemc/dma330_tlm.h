@@ -11,17 +11,26 @@
 //   If none is named, it asks from address 0 on, and goes on after the range of each answer. Memory that is granted for
 //   reading alone is ROM. After an invalidate_direct_mem_ptr the device asks again for all, before its next turn or
 //   write of a register. A target that grants a range only after the device has asked for it makes this call, too.
-//   Memory at two addresses is used at one of them. If it is ROM at one, it is used at the other; if not, at the lower.
+//   If the same memory is at two addresses, the device uses it at one of them: where it is RAM, if it is ROM at the
+//   other; otherwise at the lower address.
 // - `irq[n]`, `irq_abort` and `reset` may be left unbound. While `reset` is high, the device stays as after a reset.
 // - `on_written` is called with each range that a turn wrote, so that code translated from it can be dropped.
-// - `most` is 256 if it isn't given: copies then move some 2.5 GB/s, as was measured.
+// - `most` is the bound on the steps of a turn, see below. It is 256 if it isn't given: copies then move some 2.5 GB/s,
+//   as was measured.
 //
-// Time. A chip executes one instruction after another, of its channels in turn. So each step of a channel takes `step`,
-// and two channels that run take the sum of their steps. Here a channel's turn is up to `most` steps. When it begins,
-// its bytes are copied. Then the time of its steps passes. Then its lines change, at most one step after the DMASEV. An
-// access of a register that comes meanwhile waits for the end of the turn. So registers and lines are never early.
-// Memory is, by less than a turn, and an INTCLR that comes less than a turn before a DMASEV may take effect after it. A
-// DMAWFE takes a step when it begins to wait, and one when it passes. A write to a register takes no time.
+// Time. A chip executes one instruction after another, of its channels in turn. Here a step of a channel executes one
+// instruction, or finds that the channel has to wait. Each step takes the time `step`. The steps of two channels don't
+// overlap, so two channels that copy at once take as long as one after the other.
+//
+// For speed, a channel takes many steps at once. Such a turn has up to `most` steps. When it begins, its bytes are
+// copied. Then the time of its steps passes. Then its interrupt lines change. A DMASEV, the instruction that signals an
+// event, ends the turn: at most one more step comes after it. So a line changes at most one step later than its DMASEV.
+// An access of a register that comes in the time of a turn waits until this time is over. For a guest this means:
+// - Registers and lines never change early. Memory does, by less than a turn.
+// - A write to INTCLR, which clears an interrupt, may take effect after a DMASEV that it came before. This happens only
+//   if it came less than a turn before.
+// - A DMAWFE, the instruction that waits for an event, takes a step when it begins to wait, and one when it passes.
+// - A write to a register takes no time.
 #ifndef DMA330_TLM_H
 #define DMA330_TLM_H
 
