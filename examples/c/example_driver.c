@@ -10,9 +10,10 @@
 
 #include <string.h>
 
-/* How this driver accesses the device. */
+/* How this driver accesses the device: with the order of arguments that Linux has, the value first, and an offset in
+ * the place of an address. */
 #define readl harness_read
-#define writel harness_write
+#define writel(value, offset) harness_write(offset, value)
 
 enum { INTEN = 0x020, INTMIS = 0x028, INTCLR = 0x02C, FSRC = 0x034, CSR = 0x100, DBGSTATUS = 0xD00, DBGCMD = 0xD04,
        DBGINST0 = 0xD08, DBGINST1 = 0xD0C };
@@ -72,9 +73,9 @@ static void debug(uint32_t first, uint32_t second)
 {
     while (readl(DBGSTATUS) & 1)
         ;
-    writel(DBGINST0, first);
-    writel(DBGINST1, second);
-    writel(DBGCMD, 0);
+    writel(first, DBGINST0);
+    writel(second, DBGINST1);
+    writel(0, DBGCMD);
 }
 
 /* Makes the copy of a channel that is stopped. */
@@ -91,7 +92,7 @@ static void kill_channel(uint32_t channel)
     debug(DMA330_DBGINST0_KILL(channel), 0);
     while (readl(CSR + 8 * channel) & 15)
         ;
-    writel(INTCLR, 1u << channel);
+    writel(1u << channel, INTCLR);
 }
 
 /* Makes the copy of a channel again. */
@@ -106,7 +107,7 @@ static void restart(uint32_t channel)
 static void reset(void)
 {
     busy = 0;
-    writel(INTEN, (1u << CHANNELS) - 1);
+    writel((1u << CHANNELS) - 1, INTEN);
 }
 
 static void start(uint32_t channel, uint32_t src, uint32_t dst, uint32_t len)
@@ -127,7 +128,7 @@ static void handle_irq(void)
 {
     uint32_t failed = readl(FSRC), done = readl(INTMIS);
 
-    writel(INTCLR, done);
+    writel(done, INTCLR);
     busy &= ~done;
     for (uint32_t channel = 0; channel < CHANNELS; channel++)
         if (failed >> channel & 1)

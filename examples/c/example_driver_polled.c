@@ -7,9 +7,10 @@
 
 #include <string.h>
 
-/* How this driver accesses the device. */
+/* How this driver accesses the device: with the order of arguments that Linux has, the value first, and an offset in
+ * the place of an address. */
 #define readl harness_read
-#define writel harness_write
+#define writel(value, offset) harness_write(offset, value)
 
 enum { CSR = 0x100, DBGSTATUS = 0xD00, DBGCMD = 0xD04, DBGINST0 = 0xD08, DBGINST1 = 0xD0C };
 enum { STOPPED = 0, FAULTING = 15, CHANNEL = 0, WORD = 4, BEATS = 16, BURST = BEATS * WORD, TIMEOUT = 300 };
@@ -48,9 +49,9 @@ static void write_program(void)
  * DMAGO on, CSR reads as stopped only after the program has ended. */
 static void debug(uint32_t first, uint32_t second)
 {
-    writel(DBGINST0, first);
-    writel(DBGINST1, second);
-    writel(DBGCMD, 0);
+    writel(first, DBGINST0);
+    writel(second, DBGINST1);
+    writel(0, DBGCMD);
     while (readl(DBGSTATUS) & 1)
         ;
 }
