@@ -69,7 +69,6 @@ pub enum ChipInsn {
 
 impl ChipInsn {
     /// Returns an instruction of the model as one of a chip.
-    #[inline(always)]
     pub fn of(insn: Insn) -> ChipInsn
         ensures value { result ≡ widened insn }
         ensures core { core_of result ≡ Some insn }
@@ -92,7 +91,6 @@ impl ChipInsn {
 
 /// Writes the bytes of an instruction to the front of `out` and returns their number. The other bytes of `out` are
 /// unchanged.
-#[inline(always)]
 pub fn encode_chip(insn: ChipInsn, out: &mut [u8; 6]) -> usize
     ensures count { result ≡ length (spelling insn) }
     ensures bytes { out.new ≡ spelling insn ++ drop result out.old }
@@ -137,7 +135,6 @@ pub fn encode_chip(insn: ChipInsn, out: &mut [u8; 6]) -> usize
 }
 
 /// Decodes the instruction at the front of `bytes` in the grammar of the model's channels, like [`decode`].
-#[inline(always)]
 #[tactic(auto, using(crate::proofs::ChipLaws::widened_at))]
 pub fn decode_core(bytes: &[u8]) -> Result<(ChipInsn, usize), DecodeFault>
     ensures exact { result ≡ decoded_core bytes.now }
@@ -152,7 +149,6 @@ pub fn decode_core(bytes: &[u8]) -> Result<(ChipInsn, usize), DecodeFault>
 
 /// Decodes the instruction of a chip at the front of `bytes`, and returns it with its length in bytes. Other bytes may
 /// follow.
-#[inline(always)]
 pub fn decode_chip(bytes: &[u8]) -> Result<(ChipInsn, usize), DecodeFault>
     // The bytes begin with the encoding of the returned instruction, which has the returned length.
     ensures found { IfOk result (λ found. IsSpelledAt bytes.now found.0 found.1) }
@@ -171,7 +167,6 @@ pub fn decode_chip(bytes: &[u8]) -> Result<(ChipInsn, usize), DecodeFault>
 }
 
 // Decodes one instruction: of the model, or else by its first byte.
-#[inline(always)]
 fn read_chip(bytes: &[u8]) -> Result<(ChipInsn, usize), DecodeFault>
     ensures { result ≡ decoded bytes.now }
 {

@@ -25,7 +25,6 @@ pub enum DecodeFault {
 
 /// Writes the bytes of an instruction to the front of `out` and returns their number. The other bytes of `out` are
 /// unchanged.
-#[inline(always)]
 pub fn encode(insn: Insn, out: &mut [u8; 6]) -> usize
     ensures count { result ≡ length (spelling insn) }
     ensures bytes { out.new ≡ spelling insn ++ drop result out.old }
@@ -108,7 +107,6 @@ fn register_code(reg: Reg) -> u8
 /// Decodes the instruction at the front of `bytes`, and returns it with its length in bytes. Other bytes may follow.
 ///
 /// The immediate of DMAMOV may have any value: a control word is not checked here.
-#[inline(always)]
 pub fn decode(bytes: &[u8]) -> Result<(Insn, usize), DecodeFault>
     // The bytes begin with the encoding of the returned instruction, which has the returned length.
     ensures found { IfOk result (λ found. IsSpelledAt bytes.now found.0 found.1) }
@@ -125,7 +123,6 @@ pub fn decode(bytes: &[u8]) -> Result<(Insn, usize), DecodeFault>
 }
 
 // Decodes one instruction, by its first byte.
-#[inline(always)]
 fn read(bytes: &[u8]) -> Result<(Insn, usize), DecodeFault>
     ensures { result ≡ decoded bytes.now }
 {
@@ -194,7 +191,6 @@ fn wait(rest: &[u8]) -> Result<(Insn, usize), DecodeFault>
 }
 
 /// Decodes DMAMOV from its second byte.
-#[inline(always)]
 #[tactic(auto, using(std::proofs::lemmas::Grind::common_steps))]
 pub fn decode_mov(rest: &[u8]) -> Result<(Insn, usize), DecodeFault>
     ensures { result ≡ set_by rest.now }

@@ -13,7 +13,6 @@ use std::alloc::AllocError;
 const ROW_BYTES: usize = 16;
 
 /// Appends a line. Appends nothing if its text can't be printed or memory runs out.
-#[inline]
 pub fn print_line<T: Text>(out: &mut Vec<u8>, line: &T) -> Result<(), AllocError>
     ensures ok { OnOk result (out.new.items ≡ out.old.items ++ text_of (T.text line.now ∷ [])) }
     ensures printed { OnOk result (T.is_printed line.now) }
