@@ -70,8 +70,8 @@ pub struct ShareFault {
 impl Parts {
     /// Publishes the ticks of the engine's history, and returns `readers` readers that have seen them.
     ///
-    /// The fault is the first that applies of `BadReaders` for more than [`MAX_READERS`], `NoReader` if `left_right`
-    /// gave no place for one of the readers, and `NoMemory`.
+    /// The fault is `BadReaders` for more than [`MAX_READERS`]. Else it is `NoReader` if `left_right` gave no place for
+    /// one of the readers, or `NoMemory`, which comes first if there is no memory to publish anything.
     pub fn new<R: Wait>(
         rt: &R,
         alloc: Global,
