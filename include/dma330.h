@@ -218,8 +218,8 @@ typedef struct dma330_device_rows {
     uint32_t pitch;          /* the distance of the turns' ranges: turn k, counted from 0, wrote as many bytes as the
                               * first, from turn.written.addr + k * pitch on */
     uint32_t count;          /* the number of turns, at least 1 */
-    uint32_t steps;          /* the most steps of each turn: one turn is what a call of dma330_device_step does if its
-                              * `most` is this number */
+    uint32_t steps;          /* the bound of each turn: calls of dma330_device_step whose `most` is this number would
+                              * have made the same turns */
 } dma330_device_rows;
 
 /* How a program ended that dma330_run_program ran. A member is 0 unless its comment names the end. */
@@ -609,9 +609,9 @@ DMA330_INLINE const char *dma330_ftrd_name(uint32_t bit)
 
 /* Opens a controller with a memory of `size` zeros and with `channels` channels. It takes 2 KiB, 9,200 bytes for each
  * channel, and 24 bytes for each 4 MiB of the memory. When a page of 4,096 bytes is first written, or a transfer to it
- * starts, 16,384 bytes are allocated for it and its three neighbours. The first page in 4 MiB takes another 6 KiB. And
- * each page from address 0 up to the highest of these takes a byte or two. Codes: ALREADY_OPEN, BAD_CHANNELS,
- * SIZE_OUT_OF_RANGE, NO_MEMORY. */
+ * starts, 16,384 bytes are allocated for it and its three neighbours. The first page in 4 MiB takes another 6 KiB. A
+ * list of pages has a byte or two for each page from address 0 up to the highest one that is allocated. Codes:
+ * ALREADY_OPEN, BAD_CHANNELS, SIZE_OUT_OF_RANGE, NO_MEMORY. */
 int32_t dma330_open(dma330_controller *controller, uint32_t size, uint8_t channels) DMA330_NO_NULLS;
 
 /* Frees what an open controller holds; it may be opened again. Does nothing if it isn't open. */
@@ -827,8 +827,8 @@ int32_t dma330_channel_uninject_errors(dma330_channel *channel) DMA330_NO_NULLS;
  *     8, 12, 16, 20   4 each: the offset of the next instruction, SAR, DAR, CCR
  *     24, 25          1 each: LC0, LC1
  *     26, 30          4 and 8: instructions executed, bytes stored since the load
- *     38, 39          1 each: 1 if a program is loaded, 1 if it was compiled from a transfer, else 0
- *     40              4: the cost of a compiled program, else 0
+ *     38, 39          1 each: 1 if a program is loaded, 1 if load_copy or load_fill has made it, else 0
+ *     40              4: of a program made so, how many instructions it executes if none fails, else 0
  *     44, 46          2 each: the number of bytes in the buffer, and of the program
  *     48              the buffer, oldest byte first, then the program
  *     end             4: the Adler-32 checksum (RFC 1950) of all bytes before it */
@@ -896,8 +896,8 @@ int32_t dma330_device_step(dma330_device *device, uint8_t channel, uint32_t most
 /* Lets a channel take several turns, one for each row, while it copies the rows of a rectangle. By dma330_device_step
  * each row takes a call, since the rows have gaps between them. The call finds rows in a loop that copies each of them
  * by pairs of DMALD and DMAST with bursts of the same length. At the end of a round, this loop adds a multiple of the
- * beats' size to DAR, and perhaps before that one to SAR, each by a DMAADDH. Each row is stored above the place from
- * which it was loaded, or each is stored below it.
+ * beats' size to DAR, and perhaps before that one to SAR, each by a DMAADDH. Either every row is stored above the place
+ * from which it was loaded, or every row is stored below it.
  *
  * Elsewhere the call takes one turn, so it may always be made in place of dma330_device_step. Before this turn it looks
  * for rows in at most the next 300 instructions, or `most` if that is less. It doesn't execute these, so they aren't
@@ -932,8 +932,8 @@ int32_t dma330_device_explain(dma330_device *device, uint8_t channel, uint32_t m
 /* Writes the registers and counts of a device's channel. If the channel has failed, they are those from before the
  * instruction that failed, whatever the fault is. Say that dma330_device_explain explained the program before its first
  * turn, and that nobody else writes what the program reads or writes. Then `stored` says how far it is, also if the
- * channel waits or is faulting. That many bytes are done in all: a beginning of `dst`, and a beginning of `zeros`.
- * Codes: NO_CHANNEL. */
+ * channel waits or is faulting: so many bytes are done, copied and set to 0 together. They are the first ones of `dst`
+ * and the first ones of `zeros`; how many of them are in `dst` isn't said. Codes: NO_CHANNEL. */
 int32_t dma330_device_registers(dma330_device *device, uint8_t channel, dma330_registers *registers) DMA330_NO_NULLS;
 
 /* Writes the interrupt lines: irq[31:0] as bits, and 1 if the line irq_abort is high, else 0. A high line of irq stays
@@ -980,11 +980,11 @@ int32_t dma330_device_restore(dma330_device *device, const uint8_t *save, size_t
  *
  * These calls need nothing that is open. Programs have the instructions DMAMOV, DMALD, DMAST, DMALP with DMALPEND,
  * DMARMB, DMAWMB, DMANOP, DMASEV, DMAWFE and DMAEND. On a device, and where `bus` is that of a device, they also have
- * DMASTZ, DMAADDH, DMAADNH and the DMALPEND of a DMALPFE, which have no text here (dma330_program.h has their bytes).
- * All others, and the conditional forms, fail with DMA330_UNDEF_INSTR. A text has one instruction a line, without a
- * space before it, in capital letters and digits; a line that begins with # and an empty line are skipped. A DMALPEND
- * names the counter and how many bytes before it the loop begins. This text copies 1024 bytes as 4 bursts of 16 beats
- * of 16 bytes:
+ * DMASTZ, DMAADDH, DMAADNH and the DMALPEND that ends a loop without a count (a DMALPFE), which have no text here
+ * (dma330_program.h has their bytes). All others fail with DMA330_UNDEF_INSTR, and so do the forms that depend on a
+ * peripheral's request, such as DMALDS. A text has one instruction a line, without a space before it, in capital letters
+ * and digits; a line that begins with # and an empty line are skipped. A DMALPEND names the counter and how many bytes
+ * before it the loop begins. This text copies 1024 bytes as 4 bursts of 16 beats of 16 bytes:
  *
  *     DMAMOV SAR 0x80001000
  *     DMAMOV DAR 0x80002000
@@ -995,8 +995,8 @@ int32_t dma330_device_restore(dma330_device *device, const uint8_t *save, size_t
  *     DMALPEND 0 2
  *     DMAEND
  *
- * A program that waits has DMAWFE 3, or DMAWFE 3 invalid, and one that signals DMASEV 3. dma330_program.h has a macro
- * for the bytes of each instruction. */
+ * A program that waits for event 3 has DMAWFE 3, or DMAWFE 3 invalid (the word `invalid` changes nothing here), and one
+ * that signals it has DMASEV 3. dma330_program.h has a macro for the bytes of each instruction. */
 
 /* Writes DMA330_VERSION and a zero byte, and its length without that byte. Codes: BUFFER_TOO_SMALL. */
 int32_t dma330_version(char *out, size_t room, size_t *len) DMA330_NO_NULLS;
