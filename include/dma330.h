@@ -42,7 +42,8 @@
  * output, except where its comment says so. The comment of enum dma330_code says what to do about each code.
  *
  * Addresses and lengths of segments have 32 bits, channels and events 8: test a guest's number before you make it
- * narrower. A list of more than 64 segments is refused, so of a longer list you need to pass only the first 65. */
+ * narrower. A list of more than 64 segments is refused. So if yours is longer, pass any 65 of them, and the call refuses
+ * it. */
 #ifndef DMA330_H
 #define DMA330_H
 
@@ -340,8 +341,9 @@ enum dma330_event_kind { DMA330_WAITS = 0, DMA330_SIGNALS = 1 };
 
 /* Why a call doesn't explain a program; docs/EXPLANATIONS.md has an example and a remedy for each cause. Causes 1 to 5
  * have the numbers of enum dma330_fault: in every memory the instruction fails so. The faults of data, 6 and 7, are no
- * causes: whether a load or a store fails so depends on the memory. Only one that goes beyond the last address fails so
- * in every memory, and that has causes of its own, 8 and 9. From cause 9 on, "a store" is a DMAST or a DMASTZ.
+ * causes: whether a load or a store fails so depends on the memory. But a load or store that goes beyond the last
+ * address fails so in every memory: this has causes of its own, 8 and 9. From cause 9 on, "a store" is a DMAST or a
+ * DMASTZ.
  *
  * One case of UNSET_DAR is easily overlooked: while bytes are in the buffer, a DMAMOV DAR uses the old DAR. A device
  * compares it with the new one, as a chip does, to find whether it drops the bytes. With `bus` 0 nothing is dropped or
@@ -437,8 +439,8 @@ enum dma330_code {
     /* of arguments */
     DMA330_BAD_CHANNELS = -8,         /* the number of channels isn't 1 to 8 */
     DMA330_SIZE_OUT_OF_RANGE = -9,    /* the size of a memory isn't 1 to 4294963200 */
-    DMA330_BAD_REGIONS = -10,         /* more than 64 regions, or one begins before the end of the one before it (also
-                                       * if one of them is empty), or one ends above 4294967296 */
+    DMA330_BAD_REGIONS = -10,         /* more than 64 regions, or one begins before the end of the one before it (empty
+                                       * ones also have to rise), or one ends above 4294967296 */
     DMA330_BAD_CONFIG = -11,          /* no device can have this configuration, this bus, or this dma330_start */
     DMA330_BAD_EVENT = -12,           /* an event is above 31 */
     DMA330_BAD_ACCESS = -13,          /* neither DMA330_READS nor DMA330_WRITES */
@@ -837,8 +839,8 @@ int32_t dma330_channel_save(dma330_channel *channel, uint8_t *out, size_t room, 
 /* Makes the channel the one that was saved. A save holds no injected errors; those of this channel stay. Accepts bytes
  * exactly if they have the layout above and these values, and if besides: DMAMOV accepts the CCR; the offset of the
  * next instruction is in the program or at its end (any number if none is loaded); at most 256 bytes were stored for
- * each instruction; lengths and checksum are right. It doesn't test whether a program that is marked as compiled is
- * one. Codes: BAD_SAVE. */
+ * each instruction; lengths and checksum are right. If the byte at offset 39 says that load_copy or load_fill has made
+ * the program, this isn't tested. Codes: BAD_SAVE. */
 int32_t dma330_channel_restore(dma330_channel *channel, const uint8_t *save, size_t len) DMA330_NO_NULLS;
 
 /* ---- a device over the caller's memory ----
@@ -896,8 +898,8 @@ int32_t dma330_device_step(dma330_device *device, uint8_t channel, uint32_t most
 /* Lets a channel take several turns, one for each row, while it copies the rows of a rectangle. By dma330_device_step
  * each row takes a call, since the rows have gaps between them. The call finds rows in a loop that copies each of them
  * by pairs of DMALD and DMAST with bursts of the same length. At the end of a round, this loop adds a multiple of the
- * beats' size to DAR, and perhaps before that one to SAR, each by a DMAADDH. Either every row is stored above the place
- * from which it was loaded, or every row is stored below it.
+ * beats' size to DAR, and perhaps before that one to SAR, each by a DMAADDH. It takes them as rows only if every row is
+ * stored above the place from which it was loaded, or every row below it.
  *
  * Elsewhere the call takes one turn, so it may always be made in place of dma330_device_step. Before this turn it looks
  * for rows in at most the next 300 instructions, or `most` if that is less. It doesn't execute these, so they aren't
@@ -982,8 +984,8 @@ int32_t dma330_device_restore(dma330_device *device, const uint8_t *save, size_t
  * DMARMB, DMAWMB, DMANOP, DMASEV, DMAWFE and DMAEND. On a device, and where `bus` is that of a device, they also have
  * DMASTZ, DMAADDH, DMAADNH and the DMALPEND that ends a loop without a count (a DMALPFE), which have no text here
  * (dma330_program.h has their bytes). All others fail with DMA330_UNDEF_INSTR, and so do the forms that depend on a
- * peripheral's request, such as DMALDS. A text has one instruction a line, without a space before it, in capital letters
- * and digits; a line that begins with # and an empty line are skipped. A DMALPEND names the counter and how many bytes
+ * peripheral's request, such as DMALDS. A text has one instruction a line, without a space before it, in capital
+ * letters and digits; a line that begins with # and an empty line are skipped. A DMALPEND names the counter and how many bytes
  * before it the loop begins. This text copies 1024 bytes as 4 bursts of 16 beats of 16 bytes:
  *
  *     DMAMOV SAR 0x80001000
