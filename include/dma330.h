@@ -42,8 +42,8 @@
  * output, except where its comment says so. The comment of enum dma330_code says what to do about each code.
  *
  * Addresses and lengths of segments have 32 bits, channels and events 8: test a guest's number before you make it
- * narrower. A list of more than 64 segments is refused. So if yours is longer, pass any 65 of them, and the call refuses
- * it. */
+ * narrower. A list of more than 64 segments is refused. So if yours is longer, pass any 65 of them: the call refuses
+ * them. */
 #ifndef DMA330_H
 #define DMA330_H
 
@@ -985,8 +985,8 @@ int32_t dma330_device_restore(dma330_device *device, const uint8_t *save, size_t
  * DMASTZ, DMAADDH, DMAADNH and the DMALPEND that ends a loop without a count (a DMALPFE), which have no text here
  * (dma330_program.h has their bytes). All others fail with DMA330_UNDEF_INSTR, and so do the forms that depend on a
  * peripheral's request, such as DMALDS. A text has one instruction a line, without a space before it, in capital
- * letters and digits; a line that begins with # and an empty line are skipped. A DMALPEND names the counter and how many bytes
- * before it the loop begins. This text copies 1024 bytes as 4 bursts of 16 beats of 16 bytes:
+ * letters and digits; a line that begins with # and an empty line are skipped. A DMALPEND names the counter and how
+ * many bytes before it the loop begins. This text copies 1024 bytes as 4 bursts of 16 beats of 16 bytes:
  *
  *     DMAMOV SAR 0x80001000
  *     DMAMOV DAR 0x80002000
