@@ -36,7 +36,6 @@ impl Fifo {
     }
 
     /// Returns the number of bytes in the buffer.
-    #[inline(always)]
     pub(crate) fn len(&self) -> usize
         ensures len { result ≡ length self.now }
         ensures within { result ≤ buffer_size }
@@ -45,7 +44,6 @@ impl Fifo {
     }
 
     /// Returns whether the buffer has no bytes.
-    #[inline(always)]
     pub(crate) fn is_empty(&self) -> bool
         ensures { result ≡ (length self.now == 0) }
     {
@@ -53,7 +51,6 @@ impl Fifo {
     }
 
     /// Returns the first `count` bytes if they lie in one piece.
-    #[inline(always)]
     pub(crate) fn front(&self, count: usize) -> Option<&[u8]>
         requires { count ≤ length self.now }
         ensures { IfSome result (λ bytes. bytes.now ≡ take count self.now) }
@@ -78,7 +75,6 @@ impl Fifo {
     }
 
     /// Removes all bytes.
-    #[inline(always)]
     pub(crate) fn clear(&mut self)
         ensures { self.new ≡ [] }
     {
@@ -86,7 +82,6 @@ impl Fifo {
     }
 
     /// Removes the first `count` bytes.
-    #[inline(always)]
     pub(crate) fn drop_front(&mut self, count: usize)
         requires { count ≤ length self.old }
         ensures { self.new ≡ drop count self.old }
@@ -96,7 +91,6 @@ impl Fifo {
 
     /// Moves the first bytes to `block`, as many as it has. If none is left, the next one goes to the start of the
     /// ring's memory, so that bursts lie in one piece again.
-    #[inline(never)]
     pub(crate) fn read_into(&mut self, block: &mut [u8])
         requires { length block.old ≤ length self.old }
         ensures read { block.new ≡ take (length block.old) self.old }
@@ -114,7 +108,6 @@ impl Fifo {
     }
 
     /// Adds the first of these bytes, as many as fit, and returns their number.
-    #[inline(always)]
     pub(crate) fn fill_from_slice(&mut self, other: &[u8]) -> usize
         ensures count { result ≡ min (length other.now) (buffer_size - length self.old) }
         ensures bytes { self.new ≡ self.old ++ take result other.now }

@@ -34,8 +34,6 @@ impl Command for Asm {
 
     ghost may_print = { λ input p. p ≡ asm_printed input };
 
-    // Not inlined, so that the code of no other command changes how fast its loops are.
-    #[inline(never)]
     fn answer(&self, alloc: Global, input: &[u8], out: &mut Vec<u8>) -> Result<u8, AllocError> {
         match assemble(alloc, input) {
             Ok(program) => {

@@ -59,8 +59,6 @@ impl Command for Dis {
 
     ghost may_print = { λ input p. p ≡ dis_printed input };
 
-    // Not inlined, so that the code of no other command changes how fast its loops are.
-    #[inline(never)]
     fn answer(&self, alloc: Global, input: &[u8], out: &mut Vec<u8>) -> Result<u8, AllocError> {
         match read_pairs(alloc, input) {
             Ok(bytes) => print_text(alloc, out, &bytes),

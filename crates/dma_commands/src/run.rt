@@ -30,7 +30,6 @@ use std::alloc::{AllocError, Global};
 
 impl CallList {
     /// Takes a line that makes one call. It waits in the list, whose lines are executed first if it is full.
-    #[inline(always)]
     fn take_call(
         &mut self,
         engine: &mut Engine,
@@ -72,7 +71,6 @@ impl CallList {
     }
 
     /// Takes a `submit` line. If its transfer breaks a rule, it makes no call.
-    #[inline(never)]
     fn take_submit(
         &mut self,
         engine: &mut Engine,
@@ -97,7 +95,6 @@ impl CallList {
     }
 
     /// Takes a `copy` or `fill` line. It is executed after those that wait.
-    #[inline(never)]
     fn take_copy(
         &mut self,
         engine: &mut Engine,
@@ -116,7 +113,6 @@ impl CallList {
     }
 
     /// Takes a `totals` line. It is executed after those that wait.
-    #[inline(never)]
     fn take_totals(&mut self, engine: &mut Engine, out: &mut Vec<u8>) -> Result<(), AllocError>
         ensures ok { OnOk result ((behind : List TheStatement) → Reaches engine.old.view
             (self.old ++ Statement.Totals ∷ behind) out.old.items
@@ -131,7 +127,6 @@ impl CallList {
 
     /// Takes a line, which waits in the list, or is executed after those that wait there. Appends what the lines print
     /// that were executed. If memory runs out, appends what the first of them print, but not all.
-    #[inline(always)]
     fn take(
         &mut self,
         engine: &mut Engine,
@@ -243,8 +238,6 @@ impl Command for Run {
 
     ghost may_print = { λ input p. p ≡ printed input };
 
-    // Not inlined, so that the code of no other command changes how fast its loops are.
-    #[inline(never)]
     fn answer(&self, alloc: Global, input: &[u8], out: &mut Vec<u8>) -> Result<u8, AllocError> {
         match read_run_script(alloc, input) {
             Ok(script) => {

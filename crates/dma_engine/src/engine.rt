@@ -138,7 +138,6 @@ impl Engine {
     /// Does nothing. Its contract gives the proof of a caller what holds of every engine: the history is legal from the
     /// base, the memory is its image with the bytes that running transfers have stored so far, and the counts of steps
     /// and of finished cookies are below 2^64.
-    #[inline(always)]
     pub fn facts(&self)
         ensures sound { IsSound self.now.view }
         ensures memory { self.now.memory ≡ memory_of self.now.view }

@@ -89,7 +89,6 @@ impl Marks {
     }
 
     // Returns the addresses of the marks of a kind, as ranges in order.
-    #[inline(always)]
     fn ranges(&self, kind: MarkKind) -> &[Segment]
         ensures { AreRangesOf kind self.now result.now }
     {
@@ -100,7 +99,6 @@ impl Marks {
     }
 
     /// Returns whether a mark of the kind meets the segment: whether an address of the segment lies in such a mark.
-    #[inline(always)]
     pub fn hits(&self, kind: MarkKind, segment: Segment) -> bool
         ensures meets { result ≡ hits kind self.now segment }
         ensures addresses { result

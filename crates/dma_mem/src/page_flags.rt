@@ -30,7 +30,6 @@ impl PageFlags {
     }
 
     // Returns whether a flag is set.
-    #[inline(always)]
     fn is_set(&self, page: usize) -> bool
         ensures { result ≡ slice_index_or self.now page false }
     {
@@ -41,7 +40,6 @@ impl PageFlags {
     }
 
     /// Returns whether the flags from `first` up to, but not including, `end` are set.
-    #[inline(always)]
     pub(crate) fn are_set(&self, first: usize, end: usize) -> bool
         ensures yes { result ≡ true → (p : ℕ) → first ≤ p → p < end
             → slice_index_or self.now p false ≡ true }

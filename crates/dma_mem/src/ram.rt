@@ -109,42 +109,34 @@ impl Ram for Memory {
 
     ghost loan = { λ _. not_lent };
 
-    #[inline(always)]
     fn size(&self) -> u64 {
         u64::from(Memory::size(self))
     }
 
-    #[inline(always)]
     fn made(&self, segment: Segment) -> bool {
         Memory::made(self, segment)
     }
 
-    #[inline(always)]
     fn clear(&self, _kind: MarkKind, segment: Segment) -> u32 {
         segment.len
     }
 
-    #[inline(always)]
     fn bytes<'a>(&'a self, addr: u32, block: &'a mut [u8]) -> &'a [u8] {
         Memory::bytes(self, addr, block)
     }
 
-    #[inline(always)]
     fn prepare(&mut self, segment: Segment) -> Result<(), MemFault> {
         Memory::prepare(self, segment)
     }
 
-    #[inline(always)]
     fn put(&mut self, addr: u32, bytes: &[u8]) {
         Memory::put(self, addr, bytes);
     }
 
-    #[inline(always)]
     fn copy_apart(&mut self, from: u32, to: u32, len: u32) {
         Memory::copy_apart(self, from, to, len);
     }
 
-    #[inline(always)]
     fn fill(&mut self, addr: u32, len: u32, byte: u8) {
         Memory::fill(self, addr, len, byte);
     }
@@ -176,12 +168,10 @@ impl Ram for LentRam<'_> {
 
     ghost loan = { λ r. record { names = r.bytes.ghost_name ∷ []; gaps = []; read_only = [] } };
 
-    #[inline(always)]
     fn size(&self) -> u64 {
         self.bytes.len() as u64
     }
 
-    #[inline(always)]
     #[tactic(auto, using(crate::proofs::WholeMemory::whole_tested))]
     fn made(&self, segment: Segment) -> bool {
         if segment.len == 0 {
@@ -190,12 +180,10 @@ impl Ram for LentRam<'_> {
         segment.addr as usize + segment.len as usize <= self.bytes.len()
     }
 
-    #[inline(always)]
     fn clear(&self, _kind: MarkKind, segment: Segment) -> u32 {
         segment.len
     }
 
-    #[inline(always)]
     fn bytes<'a>(&'a self, addr: u32, block: &'a mut [u8]) -> &'a [u8] {
         let start = addr as usize;
         &self.bytes[start..start + block.len()]
@@ -209,7 +197,6 @@ impl Ram for LentRam<'_> {
         Ok(())
     }
 
-    #[inline(always)]
     fn put(&mut self, addr: u32, bytes: &[u8]) {
         put_bytes(self.bytes, addr as usize, bytes);
     }

@@ -20,7 +20,6 @@ const GROUP_SIZE: usize = 256;
 static BLANK_CHUNK: [u8; CHUNK_SIZE] = [0; CHUNK_SIZE];
 
 // Writes the bytes from index `start` on.
-#[inline(always)]
 pub(crate) fn put_bytes(all: &mut [u8], start: usize, bytes: &[u8])
     requires { start + length bytes.now ≤ length all.old }
     ensures { all.new ≡ put all.old (bytes_at start bytes.now) }
@@ -36,7 +35,6 @@ fn is_blank(bytes: &Vec<u8>) -> bool
 }
 
 // Adds the zeros of a chunk to its empty list, which has memory for them.
-#[inline(never)]
 fn push_zeros(bytes: &mut Vec<u8>)
     requires blank { IsTrue (is_blank (vec_capacity bytes.old) bytes.old.items) }
     requires room { chunk_size ≤ vec_capacity bytes.old }
@@ -49,7 +47,6 @@ fn push_zeros(bytes: &mut Vec<u8>)
 }
 
 // Adds the zeros of a chunk to its list, if the list has memory but no bytes.
-#[inline(always)]
 fn add_zeros(bytes: &mut Vec<u8>)
     requires { 0 < vec_capacity bytes.old → chunk_size ≤ vec_capacity bytes.old }
     ensures bytes { bytes.new.items ≡ bytes_shown (vec_capacity bytes.old) bytes.old.items }
@@ -117,7 +114,6 @@ impl Chunk {
     }
 
     // Writes the bytes from an offset on. The chunk is already made.
-    #[inline(always)]
     fn put(&mut self, offset: usize, bytes: &[u8])
         requires fits { offset + length bytes.now ≤ chunk_size }
         requires made { 0 < length self.old }
@@ -226,7 +222,6 @@ impl Group {
     }
 
     // Writes the bytes to a chunk that is already made, from an offset on.
-    #[inline(always)]
     fn put(&mut self, index: usize, offset: usize, bytes: &[u8])
         requires fits { offset + length bytes.now ≤ chunk_size }
         requires made { 0 < length (chunk_at self.old index) }
@@ -316,7 +311,6 @@ impl Table {
     }
 
     // Writes the bytes from `start` on. They lie in one chunk, which is already made.
-    #[inline(always)]
     #[tactic(auto, using(crate::proofs::ChunkChanges::group_found, crate::proofs::ChunkChanges::chunk_in_group))]
     fn put_in_chunk(&mut self, start: usize, bytes: &[u8])
         requires within { start % chunk_size + length bytes.now ≤ chunk_size }

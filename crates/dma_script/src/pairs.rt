@@ -18,8 +18,7 @@ fn is_gap(byte: u8) -> bool
 }
 
 /// Appends the bytes of the pairs at the front of a text, up to the first pair without a space after it, and returns
-/// what follows. Most pairs have one. Not inlined, so that no other code changes how fast its loop is.
-#[inline(never)]
+/// what follows. Most pairs have one.
 pub(crate) fn spaced_pairs<'a>(bytes: &mut Vec<u8>, text: &'a [u8]) -> &'a [u8]
     requires { length bytes.old.items + length text.now / 2 ≤ vec_capacity bytes.old }
     ensures words { bytes_after bytes.new.items (words_of result.now)

@@ -15,7 +15,6 @@ C0C1C2C3C4C5C6C7C8C9CACBCCCDCECFD0D1D2D3D4D5D6D7D8D9DADBDCDDDEDF\
 E0E1E2E3E4E5E6E7E8E9EAEBECEDEEEFF0F1F2F3F4F5F6F7F8F9FAFBFCFDFEFF";
 
 /// Returns the two hexadecimal digits of a byte, in capitals.
-#[inline(always)]
 #[tactic(auto, using(crate::proofs::PairTable::pair_at))]
 pub(crate) fn hex_pair(byte: u8) -> [u8; 2]
     ensures { result ≡ hex_pair byte }
@@ -25,7 +24,6 @@ pub(crate) fn hex_pair(byte: u8) -> [u8; 2]
 }
 
 /// Returns the eight hexadecimal digits of a number, in capitals.
-#[inline(always)]
 #[tactic(auto, using(crate::proofs::EightDigits::pairs_joined))]
 pub(crate) fn hex_digits(value: u32) -> [u8; 8]
     ensures { result ≡ hex_digits value }

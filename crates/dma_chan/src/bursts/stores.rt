@@ -20,7 +20,6 @@ use dma_mem::ram::Ram;
 
 // Stores the oldest bytes of the buffer as a burst. Bytes that a later beat would overwrite are not written. Bytes in
 // two pieces are written through the block.
-#[inline(always)]
 fn store_span<M: Ram>(burst: Burst, buffer: &mut Fifo, block: &mut [u8], memory: &mut M)
     requires some { IsBurst burst }
     requires bytes { burst_len burst ≤ length buffer.old }
@@ -48,7 +47,6 @@ fn store_span<M: Ram>(burst: Burst, buffer: &mut Fifo, block: &mut [u8], memory:
 
 // Returns the fault of DMAST, whose burst is `burst`. If it is `None`, the buffer has the bytes of the burst, and the
 // burst may touch its addresses.
-#[inline(always)]
 pub(crate) fn store_fault<M: Ram>(
     executor: &Executor,
     burst: Burst,
@@ -77,8 +75,7 @@ pub(crate) fn store_fault<M: Ram>(
     None
 }
 
-// Executes DMAST. Returns also how many bytes it stored. It isn't inlined, so that the loop of a caller stays small.
-#[inline(never)]
+// Executes DMAST. Returns also how many bytes it stored.
 pub(crate) fn store_burst<M: Ram>(
     executor: &mut Executor,
     memory: &mut M,

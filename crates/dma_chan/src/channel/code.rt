@@ -89,7 +89,6 @@ impl Code {
     }
 
     // Returns whether a program is loaded.
-    #[inline(always)]
     pub(super) fn is_loaded(&self) -> bool
         ensures { result ≡ is_some self.now }
     {
@@ -97,7 +96,6 @@ impl Code {
     }
 
     // Returns the bytes of the program, or no bytes if none is loaded.
-    #[inline(always)]
     pub(super) fn bytes(&self) -> &[u8]
         ensures value { result.now ≡ bytes_of_program self.now }
         ensures limit { length result.now ≤ most_program_bytes }

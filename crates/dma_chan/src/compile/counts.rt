@@ -79,7 +79,6 @@ pub(super) fn beats_cost(len: u32, beat: BeatSize) -> u32
 }
 
 // Returns how many instructions the bursts of `len` bytes execute, with beats of `beat` bytes.
-#[inline(always)]
 #[tactic(auto, unfolding(crate::specs::Compiled::parts), using(crate::proofs::TreeCosts::cost_counted))]
 fn parts_cost(len: u32, beat: u32) -> u32
     requires len { len ≤ 2 ^ 20 }

@@ -26,7 +26,6 @@ pub(crate) fn reply_to(alloc: Global, engine: &mut Engine, call: &Call) -> Resul
 }
 
 /// Executes `totals`.
-#[inline(never)]
 pub(crate) fn answer_totals(engine: &Engine, out: &mut Vec<u8>) -> Result<(), AllocError>
     ensures { RunsLine (line_answer engine.now.view Statement.Totals) engine.now.view
         result out.old.items out.new.items }

@@ -76,7 +76,6 @@ fn answer_transfer(
 }
 
 /// Executes `copy LIST to LIST` or `fill ADDR to LIST`.
-#[inline(never)]
 pub fn answer_copy(
     engine: &mut Engine,
     words: TransferLine,
