@@ -100,6 +100,7 @@ impl Text for Shown<Option<Outcome>> {
 impl Text for Shown<Turn> {
     ghost text = { λ shown. turn_text shown.0 };
 
+    #[inline(always)]
     fn push(&self, out: &mut Vec<u8>) -> Result<(), AllocError> {
         match self.0 {
             Turn::Nothing => "nothing".push(out),
@@ -121,7 +122,8 @@ impl Text for Shown<Turn> {
     }
 }
 
-/// Appends a text.
+/// Appends a text. Not inlined, so that the code of its callers stays small.
+#[inline(never)]
 fn push_apart<T: Text>(text: &T, out: &mut Vec<u8>) -> Result<(), AllocError>
     ensures ok { OnOk result (out.new.items ≡ out.old.items ++ T.text text.now) }
     ensures begins { Begins out.new.items out.old.items }
@@ -135,6 +137,7 @@ impl Text for Shown<Result<Turn, EngineFault>> {
 
     ghost is_printed = { λ shown. reply_of Turned shown.0 ≢ Refused NoMemory };
 
+    #[inline]
     fn push(&self, out: &mut Vec<u8>) -> Result<(), AllocError> {
         match self.0 {
             Ok(turn) => Shown(turn).push(out),

@@ -47,7 +47,6 @@ pub fn run(alloc: Global, engine: &mut Engine, calls: &[Call]) -> Result<Vec<Rep
 
 // Executes the first of these calls, and with it those behind it that are steps of the same channel, as far as
 // `advance` takes them. Adds their replies, and returns how many there are.
-#[inline(always)]
 fn answer_some(engine: &mut Engine, calls: &[Call], replies: &mut Vec<Reply>) -> usize
     requires some { 0 < length calls.now }
     requires room { length replies.old.items + length calls.now ≤ vec_capacity replies.old }
@@ -97,7 +96,6 @@ fn steps_ahead(ch: u8, calls: &[Call]) -> u32
 
 // Takes steps of a channel by `advance`, at most `most`. Adds their replies, and returns how many there are. If the last
 // step changed nothing, all others up to `most` have its reply, and are not executed.
-#[inline(never)]
 fn answer_steps(engine: &mut Engine, ch: u8, most: u32, replies: &mut Vec<Reply>) -> u32
     requires some { 0 < most }
     requires room { length replies.old.items + most ≤ vec_capacity replies.old }

@@ -98,6 +98,7 @@ impl CallList {
 
     /// Executes the lines if the list has no room for this many calls, or gets none. If memory runs out, appends what the
     /// first lines print, but not all.
+    #[inline(always)]
     pub fn make_room(
         &mut self,
         engine: &mut Engine,
@@ -153,6 +154,7 @@ pub fn push_calls(calls: &mut Vec<Call>, ch: u8, count: u32) -> Result<(), Alloc
 
 /// Appends what a line prints, given its calls and their replies, and perhaps further ones. Returns the number of its
 /// calls. Appends nothing if one of them is out of memory, or memory runs out.
+#[inline(always)]
 fn print_first(
     line: Line,
     calls: &[Call],

@@ -11,7 +11,6 @@ use dma_mem::lists::Bytes;
 
 impl Engine {
     /// Executes a call by the method of the same name, and returns its reply.
-    #[inline(never)]
     pub fn carry_out(&mut self, call: &Call) -> Reply
         ensures { CallAnswers self.old.view call.now result self.new.view }
     {
@@ -38,7 +37,6 @@ impl Engine {
 }
 
 // Returns the reply to a step.
-#[inline(always)]
 pub(crate) fn turned_or_refused(outcome: Result<Turn, EngineFault>) -> Reply
     ensures { result ≡ reply_of (λ turn. Reply.Turned turn) outcome }
 {
