@@ -34,7 +34,6 @@ pub struct Region<'a> {
 
 impl Region<'_> {
     // Returns whether the address lies in the region.
-    #[inline(always)]
     pub(crate) fn has(&self, addr: u64) -> bool
         ensures { result ≡ has addr (piece_of self.now) }
     {
@@ -44,7 +43,6 @@ impl Region<'_> {
 
     // Returns the address after the region's last byte, which needn't be an address of 32 bits. The sum saturates, so
     // that a length of almost 2^64, which only a mistaken program in C lends, isn't in order.
-    #[inline(always)]
     pub(crate) fn end(&self) -> u64
         ensures { result ≡ end_of (piece_of self.now) }
     {
@@ -60,7 +58,6 @@ impl Region<'_> {
     }
 
     // Returns whether bursts of a kind fail in the region.
-    #[inline(always)]
     pub(crate) fn bars(&self, kind: MarkKind) -> bool
         ensures { result ≡ bars kind self.now }
     {
@@ -71,7 +68,6 @@ impl Region<'_> {
     }
 
     // Returns whether bursts of a kind fail at an address at or below which the regions before this one end.
-    #[inline(always)]
     pub(crate) fn fails_at(&self, kind: MarkKind, addr: u64) -> bool
         ensures { result ≡ (nat_lt addr self.now.addr
             || (bars kind self.now && nat_lt addr (end_of (piece_of self.now)))) }
@@ -96,7 +92,6 @@ pub fn are_in_order(regions: &[Region<'_>]) -> bool
 }
 
 // Returns the bytes of the region that has an address, from there to the region's end, or none if no region has it.
-#[inline(always)]
 fn bytes_from<'a>(regions: &'a [Region<'_>], addr: u32) -> &'a [u8]
     requires { IsTrue (in_order (pieces_of regions.now)) }
     ensures { result.now ≡ rest_from (pieces_of regions.now) addr }
@@ -278,7 +273,6 @@ impl Ram for LentRegions<'_, '_> {
     } };
 
     #[tactic(auto, using(crate::proofs::Pieces::image_of_most))]
-    #[inline(always)]
     fn size(&self) -> u64 {
         size_of(shared(&self.regions))
     }

@@ -6,7 +6,6 @@ use dma_io::progress::Progress;
 const INTERVAL: u32 = 1 << 22;
 
 /// Reports the number of instructions, if it is a multiple of the interval.
-#[inline(always)]
 pub(crate) fn report<P: Progress>(progress: &mut P, steps: u32) {
     if steps % INTERVAL == 0 {
         progress.report(u64::from(steps), "instructions");

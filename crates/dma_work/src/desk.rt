@@ -218,7 +218,6 @@ impl<N: DeskName> Desk<N> {
     /// finish for `Finished`. Each call adds a turn to the tally, which has fewer than 2^64 - 1 turns.
     ///
     /// Only a step that finishes a cookie publishes. A refused step changes nothing but the tally's number of turns.
-    #[inline(always)]
     pub fn step<R: Wait>(
         &mut self,
         rt: &R,

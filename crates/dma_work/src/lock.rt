@@ -19,8 +19,7 @@ const SHORTEST: u64 = 50;
 
 const DOUBLINGS: u32 = 4;
 
-/// Takes a lock. A free one is taken inline, without a call.
-#[inline(always)]
+/// Takes a lock. A free one is taken without a wait.
 pub(crate) fn locked<'a, D, R: Wait>(rt: &R, mutex: &'a Mutex<D>) -> MutexGuard<'a, D> {
     match mutex.try_lock() {
         Some(guard) => guard,

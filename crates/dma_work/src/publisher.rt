@@ -174,7 +174,6 @@ impl Publisher {
 
     /// Takes a step of an engine. If it finishes a cookie, everything grows first that the step and its publication
     /// need, and its tick is published.
-    #[inline(always)]
     pub fn step<R: Wait>(
         &mut self,
         rt: &R,
@@ -195,7 +194,6 @@ impl Publisher {
     }
 
     // Takes a step that finishes a cookie.
-    #[inline(never)]
     fn finish<R: Wait>(&mut self, rt: &R, engine: &mut Engine, ch: u8) -> Result<Turn, EngineFault>
         requires ends { ends (turn engine.old.view ch).0 ≡ true }
         requires none { self.old.pending ≡ [] }

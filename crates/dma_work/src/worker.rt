@@ -219,7 +219,6 @@ impl<'a, D> Lender<D> for Locked<'a, D> {
     ghost lends = { λ before lent back after. Unit {0} };
 
     /// Takes the lock, lends the value, and releases the lock.
-    #[inline(always)]
     fn lend<R: Wait, B: Borrower<D>>(&mut self, rt: &R, to: &mut B) {
         let mut value = locked(rt, self.lock);
         to.borrow(rt, &mut value);
@@ -243,7 +242,6 @@ impl<N: DeskName> Borrower<Desk<N>> for StepAt<N> {
     ghost does = { λ s d t e. CountsAStep N.opening s.ch s.tally d t.tally e };
 
     /// Steps the desk's channel.
-    #[inline(always)]
     fn borrow<R: Wait>(&mut self, rt: &R, lent: &mut Desk<N>) {
         // gives the proof access to the desk's invariant
         let _engine = lent.engine();
@@ -306,7 +304,6 @@ impl<N: DeskName, L: Lender<Desk<N>>, G: Gate> Stepper<G> for Worker<N, L> {
     }
 
     /// Borrows the desk, and steps its channel.
-    #[inline(always)]
     fn turn<R: Wait>(&mut self, rt: &R, ch: u8) {
         self.step.ch = ch;
         self.lender.lend(rt, &mut self.step);

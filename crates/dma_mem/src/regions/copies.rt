@@ -12,7 +12,6 @@ use crate::table::blocks::copy_bytes_apart;
 const BLOCK_SIZE: usize = 1024;
 
 // Copies `len` bytes from `from` to `to` within the region at an index. The two ranges share no address.
-#[inline(always)]
 fn copy_in_region(regions: &mut [Region<'_>], index: usize, from: u32, to: u32, len: u32)
     requires order { IsTrue (in_order (pieces_of regions.old)) }
     requires index { index < length regions.old }
@@ -59,7 +58,6 @@ fn copy_by_blocks(regions: &mut [Region<'_>], from: u32, to: u32, len: u32)
 }
 
 // Copies `len` bytes from `from` to `to`. The two ranges share no address.
-#[inline(never)]
 fn copy_anywhere(regions: &mut [Region<'_>], from: u32, to: u32, len: u32)
     requires writable { Writable regions.old to len }
     requires source { from + len ≤ length (image_of (pieces_of regions.old)) }

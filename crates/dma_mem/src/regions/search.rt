@@ -21,7 +21,6 @@ fn begun_by(regions: &[Region<'_>], addr: u32) -> usize
 }
 
 // Returns the index of the region that has an address, or the number of regions if none has it.
-#[inline(never)]
 fn place_by_search(regions: &[Region<'_>], addr: u32) -> usize
     requires { IsTrue (in_order (pieces_of regions.now)) }
     ensures within { result ≤ length regions.now }
@@ -43,8 +42,7 @@ fn place_by_search(regions: &[Region<'_>], addr: u32) -> usize
 }
 
 /// Returns the index of the region that has an address, or the number of regions if none has it. The common case, one
-/// of the first two regions, is decided inline; every other case by binary search.
-#[inline(always)]
+/// of the first two regions, is decided first; every other case by binary search.
 pub(crate) fn place(regions: &[Region<'_>], addr: u32) -> usize
     requires { IsTrue (in_order (pieces_of regions.now)) }
     ensures within { result ≤ length regions.now }
@@ -91,7 +89,6 @@ pub(crate) fn region_with_range(regions: &[Region<'_>], addr: u32, len: usize) -
 }
 
 /// Returns whether the region at an index has all `len` addresses from `addr` on.
-#[inline(always)]
 pub(crate) fn has_range(regions: &[Region<'_>], index: usize, addr: u32, len: usize) -> bool
     requires { index < length regions.now }
     ensures { IsTrue result → Holds (pieces_of regions.now) index addr len }
@@ -102,7 +99,6 @@ pub(crate) fn has_range(regions: &[Region<'_>], index: usize, addr: u32, len: us
 
 // Returns how many addresses of a segment come before the first at which a burst of this kind fails, or the segment's
 // length if it fails at none. Bursts fail in gaps, and stores also in read-only regions.
-#[inline(never)]
 fn clear_by_walk(regions: &[Region<'_>], kind: MarkKind, segment: Segment) -> u32
     requires { IsTrue (in_order (pieces_of regions.now)) }
     ensures few { result ≤ segment.len }
@@ -154,7 +150,6 @@ pub(crate) fn clear_of(regions: &[Region<'_>], kind: MarkKind, segment: Segment)
 }
 
 /// Returns the end of the last region, or 0 if there are no regions.
-#[inline(always)]
 pub(crate) fn size_of(regions: &[Region<'_>]) -> u64
     requires { IsTrue (in_order (pieces_of regions.now)) }
     ensures { result ≡ length (image_of (pieces_of regions.now)) }
