@@ -55,7 +55,7 @@ fn lies_outside(ranges: &[Segment], segment: Segment) -> bool
 }
 
 // Returns whether a range shares an address with the segment. If one does, so does the first range that ends above the
-// segment's start, which a binary search finds.
+// segment's start, which a binary search finds. Not inlined, since the functions above mostly have the answer.
 #[inline(never)]
 fn meets_by_search(ranges: &[Segment], segment: Segment) -> bool
     requires { IsOrdered ranges.now }

@@ -26,6 +26,7 @@ impl Table {
     }
 
     /// Fills `buf` with the bytes from `start` on.
+    // (Not inlined, nor the two below, so that what mostly happens, the use of one chunk, stays small.)
     #[inline(never)]
     pub(crate) fn read(&self, start: usize, buf: &mut [u8])
         requires { start + length buf.old < 2 ^ 33 }
