@@ -385,7 +385,7 @@ def lists_of(found, met):
             f"({more} more lines), all of its clauses exactly ({lines} lines in {files} files)."
         )
         yield ""
-    yield from ("All contracts lead to every file of `specs/`, and some of `inner/`:", "")
+    yield from ("The contracts of all crates together use these files of definitions:", "")
     yield from table(rows_of_crates())
 
 
