@@ -44,7 +44,6 @@ pub struct Burst {
 }
 
 // Returns how many bytes the first beat of a burst leaves out.
-#[inline(always)]
 fn skip_of(bus: Bus, increments: bool, addr: u32, size: u32) -> u32
     requires { 1 ≤ size }
     ensures value { result ≡ skip_of bus increments addr size }
@@ -59,7 +58,6 @@ fn skip_of(bus: Bus, increments: bool, addr: u32, size: u32) -> u32
 
 impl Burst {
     // Returns the burst that begins at this address on a bus, with the fields of one end of a control word.
-    #[inline(always)]
     fn of(bus: Bus, addr: u32, end: BurstEnd) -> Burst
         ensures value { result ≡ record {
           addr = addr;
@@ -130,7 +128,6 @@ impl Burst {
 }
 
 /// Returns the burst of a load.
-#[inline(always)]
 #[tactic(auto, using(crate::proofs::BurstEnds::burst_of_end))]
 pub fn source_burst(registers: &Registers) -> Burst
     ensures value { result ≡ source_of registers.now }
@@ -141,7 +138,6 @@ pub fn source_burst(registers: &Registers) -> Burst
 }
 
 /// Returns the burst of a store.
-#[inline(always)]
 #[tactic(auto, using(crate::proofs::BurstEnds::burst_of_end))]
 pub fn destination_burst(registers: &Registers) -> Burst
     ensures value { result ≡ destination_of registers.now }
@@ -181,7 +177,6 @@ fn put_run(buffer: &mut Fifo, byte: u8, count: u32)
 }
 
 // Appends the bytes to the buffer `rounds` times. A single byte, as in the source of a fill, is appended as one run.
-#[inline(never)]
 #[tactic(auto, using(crate::proofs::BurstRounds::one_run, crate::proofs::BurstRounds::round_put))]
 fn put_rounds(buffer: &mut Fifo, bytes: &[u8], rounds: u32)
     requires few { rounds ≤ 16 }
@@ -250,8 +245,7 @@ pub(crate) fn load_fault<M: Ram>(
     None
 }
 
-// Executes DMALD. It isn't inlined, so that the loop of a caller stays small.
-#[inline(never)]
+// Executes DMALD.
 pub(crate) fn load_burst<M: Ram>(executor: &mut Executor, memory: &M, marks: &Marks) -> ChanTurn
     requires block { length executor.old.block.items ≡ buffer_size }
     requires pc { executor.old.registers.pc < most_program_bytes }

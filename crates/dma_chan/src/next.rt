@@ -73,7 +73,6 @@ pub(crate) fn insn_at(program: &[u8], pc: u32) -> Result<Insn, FaultKind>
 
 impl Next {
     // Returns this instruction, whose encoding has `len` bytes.
-    #[inline(always)]
     pub(crate) fn of(insn: ChipInsn, len: u32) -> Next
         requires { len ≡ length (spelling insn) }
         ensures { result ≡ insn }
@@ -99,7 +98,6 @@ impl Next {
 
     /// Returns the instruction at an offset of a program in the grammar of the model alone, or the fault of fetching
     /// it.
-    #[inline(always)]
     pub fn at(program: &[u8], pc: u32) -> Result<Next, FaultKind>
         requires offset { pc ≤ length program.now }
         requires limit { length program.now ≤ most_program_bytes }

@@ -28,6 +28,7 @@ pub enum Access<'a> {
 
 impl Access<'_> {
     /// Returns whether a running transfer with these ranges conflicts with `self`.
+    // (Not inlined, so that the loop over the running transfers stays small.)
     #[inline(never)]
     pub fn conflicts_with(&self, ranges: &Ranges) -> bool
         ensures { (t : Descriptor) → HasRangesOf ranges.now t

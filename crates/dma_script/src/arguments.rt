@@ -135,7 +135,7 @@ impl<'a> Arguments<'a> {
         low
     }
 
-    /// Reads a number of at most 255 of any form.
+    /// Reads a number of at most 255 of any form. Not inlined, since most such numbers are one digit.
     #[inline(never)]
     fn any_byte(&mut self) -> u8
         ensures { (result, self.new) ≡ read (byte makes) self.old }

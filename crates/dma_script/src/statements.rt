@@ -127,7 +127,8 @@ pub(crate) fn keyword_in(word: &[u8]) -> Option<Keyword>
     }
 }
 
-/// Reads the first line, `memory SIZE CHANNELS`. Fails with `First` for any other keyword.
+/// Reads the first line, `memory SIZE CHANNELS`. Fails with `First` for any other keyword. Not inlined, since a script
+/// has one such line.
 #[inline(never)]
 pub(crate) fn first_line(alloc: Global, keyword: Keyword, words: &[u8]) -> Result<RunScript, Cause>
     ensures { result ≡ first_line keyword (words_of words.now) }
@@ -381,6 +382,7 @@ impl Script for ReadSoFar {
 }
 
 /// Reads a whole run script, or fails with its first fault or `NoMemory`. Runs none of it.
+// (Not inlined, so that the code of its caller doesn't change how fast lines are read.)
 #[inline(never)]
 pub fn read_run_script(alloc: Global, input: &[u8]) -> Result<RunScript, ScriptError>
     ensures script { Gives (λ script. script) result (run_script_of input.now) }

@@ -286,7 +286,7 @@ fn print_transfer(ch: u8, whole: Whole, out: &mut Vec<u8>) -> Result<(), AllocEr
     print(out, &((start, "\n"), (moves, "\n"), (finish, "\n")))
 }
 
-/// Appends the lines of the answers to several steps of a channel.
+/// Appends the lines of the answers to several steps of a channel. Not inlined, since most lines take one step.
 #[inline(never)]
 fn print_several(
     ch: u8,
@@ -331,7 +331,7 @@ pub fn print_steps(
     }
 }
 
-/// Executes a `step` line of so many steps that they take several lists of calls.
+/// Executes a `step` line of so many steps that they take several lists of calls. Not inlined, since it is rare.
 #[inline(never)]
 pub fn answer_steps(
     engine: &mut Engine,
