@@ -381,8 +381,8 @@ def lists_of(found, met):
         plain = " and ".join(f"`{it}`" for it in PARAMETERS[law][0])
         yield from wrapped(
             f"These counts stop at {', '.join(first)} and {last} of `{crate}`: neither they nor what they use is "
-            f"counted. The law `{law[1]}` in its `{at}` describes them: its clauses {plain} in plain terms "
-            f"({more} more lines), all of its clauses exactly ({lines} lines in {files} files)."
+            f"counted. The law `{law[1]}` in its `{at}` describes them: in plain terms by its clauses {plain}, "
+            f"for which you read {more} more lines. To know them exactly takes {lines} lines in {files} files."
         )
         yield ""
     yield from ("The contracts of all crates together use these files of definitions:", "")
