@@ -439,8 +439,8 @@ enum dma330_code {
     /* of arguments */
     DMA330_BAD_CHANNELS = -8,         /* the number of channels isn't 1 to 8 */
     DMA330_SIZE_OUT_OF_RANGE = -9,    /* the size of a memory isn't 1 to 4294963200 */
-    DMA330_BAD_REGIONS = -10,         /* more than 64 regions, or one begins before the end of the one before it (empty
-                                       * ones also have to rise), or one ends above 4294967296 */
+    DMA330_BAD_REGIONS = -10,         /* more than 64 regions, or one begins before the end of the one before it (also
+                                       * if one of the two is empty), or one ends above 4294967296 */
     DMA330_BAD_CONFIG = -11,          /* no device can have this configuration, this bus, or this dma330_start */
     DMA330_BAD_EVENT = -12,           /* an event is above 31 */
     DMA330_BAD_ACCESS = -13,          /* neither DMA330_READS nor DMA330_WRITES */

@@ -58,7 +58,7 @@ class SizeOutOfRange(Error, ValueError):
 
 
 class BadRegions(Error, ValueError):
-    """More than 64 regions, or one begins before the end of the one before it (empty ones also have to rise), or one
+    """More than 64 regions, or one begins before the end of the one before it (also if one of the two is empty), or one
     ends above 4294967296."""
 
 

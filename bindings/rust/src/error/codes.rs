@@ -24,8 +24,8 @@ pub enum Error {
     BadChannels,
     /// The size of a memory isn't 1 to 4294963200.
     SizeOutOfRange,
-    /// More than 64 regions, or one begins before the end of the one before it (empty ones also have to rise), or one
-    /// ends above 4294967296.
+    /// More than 64 regions, or one begins before the end of the one before it (also if one of the two is empty), or
+    /// one ends above 4294967296.
     BadRegions,
     /// No device can have this configuration, this bus, or this Start.
     BadConfig,
@@ -130,7 +130,7 @@ pub const TEXTS: [(Error, &str); 23] = [
     (Error::ProgramTooLong, "a program has more than 8192 bytes"),
     (Error::BadChannels, "the number of channels isn't 1 to 8"),
     (Error::SizeOutOfRange, "the size of a memory isn't 1 to 4294963200"),
-    (Error::BadRegions, "more than 64 regions, or one begins before the end of the one before it (empty ones also have to rise), or one ends above 4294967296"),
+    (Error::BadRegions, "more than 64 regions, or one begins before the end of the one before it (also if one of the two is empty), or one ends above 4294967296"),
     (Error::BadConfig, "no device can have this configuration, this bus, or this Start"),
     (Error::BadEvent, "an event is above 31"),
     (Error::BadRange, "a range in which accesses are to fail is empty, or ends above 2^32"),
