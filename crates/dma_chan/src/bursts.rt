@@ -79,7 +79,6 @@ impl Burst {
     }
 
     /// Returns how many bytes the burst moves.
-    #[inline(always)]
     pub fn len(self) -> u32
         requires some { IsBurst self }
         ensures value { result ≡ burst_len self }
@@ -194,7 +193,6 @@ fn put_rounds(buffer: &mut Fifo, bytes: &[u8], rounds: u32)
 
 // Loads the bytes of a burst into the buffer. Bytes on one page are read in place, and bytes on two pages through the
 // block.
-#[inline(always)]
 #[tactic(auto, using(crate::proofs::BurstRounds::read_touched))]
 fn load_span<M: Ram>(burst: Burst, buffer: &mut Fifo, block: &mut [u8], memory: &M)
     requires some { IsBurst burst }

@@ -95,6 +95,8 @@ impl CallList {
     }
 
     /// Takes a `copy` or `fill` line. It is executed after those that wait.
+    // (Not inlined, so that a line that waits takes fewer instructions.)
+    #[inline(never)]
     fn take_copy(
         &mut self,
         engine: &mut Engine,
@@ -113,6 +115,8 @@ impl CallList {
     }
 
     /// Takes a `totals` line. It is executed after those that wait.
+    // (Not inlined, as `take_copy` is not.)
+    #[inline(never)]
     fn take_totals(&mut self, engine: &mut Engine, out: &mut Vec<u8>) -> Result<(), AllocError>
         ensures ok { OnOk result ((behind : List TheStatement) → Reaches engine.old.view
             (self.old ++ Statement.Totals ∷ behind) out.old.items

@@ -241,7 +241,6 @@ pub(crate) fn read_into(regions: &[Region<'_>], addr: u32, block: &mut [u8])
 }
 
 // Reborrows a mutable slice as a shared one.
-#[inline(always)]
 fn shared<'a, T>(slice: &'a &mut [T]) -> &'a [T]
     ensures { result.now ≡ slice.now.now }
 {
@@ -291,7 +290,6 @@ impl Ram for LentRegions<'_, '_> {
     }
 
     #[tactic(auto, using(crate::proofs::PieceWrites::rest_shown))]
-    #[inline(always)]
     fn bytes<'a>(&'a self, addr: u32, block: &'a mut [u8]) -> &'a [u8] {
         let regions = shared(&self.regions);
         let bytes = bytes_from(regions, addr);

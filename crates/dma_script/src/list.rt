@@ -53,7 +53,6 @@ impl<T: Drop> List<T> {
     }
 
     /// Adds an item at the end. If it is out of memory, the list is unchanged.
-    #[inline(always)]
     pub(crate) fn push(&mut self, item: T) -> Result<(), AllocError>
         ensures ok { OnOk result (self.new ≡ self.old ++ item ∷ []) }
         ensures err { OnErr result (self.new ≡ self.old) }

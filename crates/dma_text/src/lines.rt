@@ -18,7 +18,6 @@ pub fn split_line(text: &[u8]) -> (&[u8], &[u8])
 }
 
 /// Returns whether a byte is a space or a tab. Most bytes of a line are above both, and take one comparison.
-#[inline(always)]
 pub fn is_blank(byte: u8) -> bool
     ensures { result ≡ is_blank byte }
 {

@@ -30,7 +30,6 @@ fn joined(run: Segment, next: Segment) -> Option<Segment>
 }
 
 // Appends a range to a list. Where it goes on from the last range, that one grows.
-#[inline(always)]
 pub(super) fn push_run(list: &mut Vec<Segment>, run: Segment) -> Result<(), AllocError>
     requires { NoneJoin join_run list.old.items }
     ensures { OnOk result (list.new.items ≡ with_item join_run list.old.items run) }
@@ -85,7 +84,6 @@ impl Repeated {
 
 // Returns how many items of a list stay as they are when an item is appended, and the item that then follows them: the
 // appended one, joined with the items before it as long as they can be joined.
-#[inline(always)]
 fn settled(list: &[Repeated], item: Repeated) -> (usize, Repeated)
     requires { NoneJoin join_read list.now }
     ensures within { result.0 ≤ length list.now }

@@ -70,7 +70,6 @@ pub(crate) fn place(regions: &[Region<'_>], addr: u32) -> usize
 
 /// Returns the index of the region that has all `len` addresses from `addr` on, or the number of regions if none has
 /// them.
-#[inline(always)]
 pub(crate) fn region_with_range(regions: &[Region<'_>], addr: u32, len: usize) -> usize
     requires { IsTrue (in_order (pieces_of regions.now)) }
     ensures within { result ≤ length regions.now }
