@@ -29,3 +29,19 @@ invariant_of-self-2 c =
           c.args.segment c.self.invariant
           w.add_in_order-in-Writing.ensures.ordered w.in_ok-add_in_order-in-Writing.ensures.ok (longer c _ _ w.self-inside-is refl w.in-Writing.is))
     ]
+
+pub invariant_of-self-in_err-add_in_order-in-Reading : goal.invariant_of-self-in_err-add_in_order-in-Reading
+invariant_of-self-in_err-add_in_order-in-Reading c =
+    rw (c.in_ok-reserve.ensures.items, c.in_err-add_in_order-in-Reading.ensures.err) c.self.invariant
+
+pub invariant_of-self-in_err-add_in_order-in-Writing : goal.invariant_of-self-in_err-add_in_order-in-Writing
+invariant_of-self-in_err-add_in_order-in-Writing c =
+    rw (c.in_ok-reserve.ensures.items, c.in_err-add_in_order-in-Writing.ensures.err) c.self.invariant
+
+pub returns-clause-ok : goal.returns-clause-ok
+returns-clause-ok c =
+    let old = ap (λ (ms : MarkList). ms ++ (c.args.kind, c.args.segment) ∷ []) c.self.view_is in
+    elim c.match-kind.branch [
+      | in-Reading+in_ok-add_in_order-in-Reading w ↦ longer c _ _ w.self-inside-is refl refl ∙ old
+      | in-Writing+in_ok-add_in_order-in-Writing w ↦ longer c _ _ w.self-inside-is refl refl ∙ old
+    ]

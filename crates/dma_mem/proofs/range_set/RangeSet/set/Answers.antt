@@ -32,3 +32,9 @@ returns-clause-same c =
     (take c.extend_from_slice.new.self.len
     (c.sort_by_address.new.segments ++ drop (length c.sort_by_address.new.segments) c.extend_from_slice.new.self.items)) c.args.segments.now
     c.coalesce.ensures.same (same_permuted c.args.segments.now _ (sorted (goal.at.returns-clause-same c).After-sort_by_address))
+
+pub invariant_of-self-2 : goal.invariant_of-self-2
+invariant_of-self-2 c = c.coalesce.ensures.coalesced
+
+pub returns-clause-coalesced : goal.returns-clause-coalesced
+returns-clause-coalesced c = c.coalesce.ensures.coalesced

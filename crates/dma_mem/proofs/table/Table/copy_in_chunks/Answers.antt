@@ -14,6 +14,21 @@ replace-chunk-requires c = grind (arith, within_group)
 pub replace-requires : goal.replace-requires
 replace-requires c = grind (arith, within_taken)
 
+pub copy_apart-requires-clause-made : goal.copy_apart-requires-clause-made
+copy_apart-requires-clause-made c =
+    rw (c.replace-chunk.ensures.old ∙ chunk_in_group c.self.inside.groups.items c.args.self.now (c.args.to / 16384) c.index_mut.result.now c.self.view_is
+    c.requires.made c.index_mut.ensures.value) c.requires.made
+
+pub fill-requires-clause-made : goal.fill-requires-clause-made
+fill-requires-clause-made c =
+    rw (c.replace-chunk.ensures.old ∙ chunk_in_group c.self.inside.groups.items c.args.self.now (c.args.to / 16384) c.index_mut.result.now c.self.view_is
+    c.requires.made c.index_mut.ensures.value) c.requires.made
+
+pub put-requires-clause-made : goal.put-requires-clause-made
+put-requires-clause-made c =
+    rw (c.replace-chunk.ensures.old ∙ chunk_in_group c.self.inside.groups.items c.args.self.now (c.args.to / 16384) c.index_mut.result.now c.self.view_is
+    c.requires.made c.index_mut.ensures.value) c.requires.made
+
 pub returns : goal.returns
 returns c =
     let groups = c.self.inside.groups.items in
