@@ -1,4 +1,5 @@
-use Rattle.std.proofs.Common.{◌≡◌, ◌∷◌, [], ◌+◌, ◌*◌, ◌++◌, ◌∙◌, min, length, drop, sym, ap, refl, append_assoc, length-drop, arith, rules}
+use Rattle.std.proofs.Common.{◌≡◌, ◌∷◌, [], ◌+◌, ◌*◌, ◌/◌, ◌++◌, ◌∙◌, min, length, drop, sym, ap, refl, append_assoc, append-nil, length-drop, arith, rules}
+use Rattle.std.specs.Slice.Iter.{chunks_rest, chunks_size}
 use Rattle.dma_text.proofs.Begun.{begins_appended, begins_more}
 use Rattle.dma_io.specs.{Command.text_of, Printing.row_line}
 use Rattle.dma_io.proofs.RowLemmas.{first_row, rest_after, front_text, front_text_more}
@@ -30,3 +31,22 @@ pub returns-in_err-push_row-clause-begins : goal.returns-in_err-push_row-clause-
 returns-in_err-push_row-clause-begins c =
     let (count, high, left, text) = c.loop-row.invariant.3 in
     begins_more _ _ _ (begins_appended _ _ _ text) c.push_row.ensures.begins
+
+pub loop-row-init : goal.loop-row-init
+loop-row-init c =
+    let same = c.into_iter-row-iterator.ensures.into_iter_gives in
+    let size = ap chunks_size same ∙ c.chunks-row-items.ensures.size in
+    (omega arith, tt, size, (0, omega arith, ap chunks_rest same ∙ c.chunks-row-items.ensures.rest, sym (append-nil c.args.out.now.items)))
+
+pub returns-clause-ok : goal.returns-clause-ok
+returns-clause-ok c =
+    let bytes = c.args.self.now.0.now in
+    let (count, high, left, text) = c.loop-row.invariant.3 in
+    let none = c.in-None.ensures.steps.1.0 in
+    let all : count ≡ (length bytes + 15) / 16 = omega (arith, ap length left, length-drop (16 * count) bytes) in
+    text ∙ ap (λ n. c.args.out.now.items ++ front_text bytes n) all
+
+pub returns-clause-begins : goal.returns-clause-begins
+returns-clause-begins c =
+    let (count, high, left, text) = c.loop-row.invariant.3 in
+    begins_appended _ _ _ text
