@@ -142,7 +142,12 @@ early_moves before jobs keyword words early = grind (arith, then_holds, next_som
 race_moves : (before : Option RunScript) (jobs : List JobLine) (after : Option (List Statement)) (keyword : RaceKeyword) (words : List (List ℕ))
     → IsSound (race_read before jobs after)
     → IfOk (next_race_line (race_read before jobs after) keyword words) (Moves (race_read before jobs after) keyword)
-race_moves before jobs after keyword words h = grind (arith, early_moves, bind_holds, or_true, is_some, nat_lt, length-append)
+race_moves before jobs None (race_keywords.Line keyword) words h = grind (arith, early_moves)
+race_moves before jobs None race_keywords.Job words h = grind (arith, bind_holds, or_true, is_some, nat_lt, length-append)
+race_moves before jobs None race_keywords.Go words h = grind (arith, bind_holds, or_true, is_some)
+race_moves before jobs (Some after) (race_keywords.Line keyword) words h = grind (arith, bind_holds, or_true, is_some)
+race_moves before jobs (Some after) race_keywords.Job words h = tt
+race_moves before jobs (Some after) race_keywords.Go words h = tt
 
 -- After a line of any words, what was read is sound. Its side is that after the command, if one was taken; else it
 -- stays.
