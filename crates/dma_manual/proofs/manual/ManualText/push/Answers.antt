@@ -13,3 +13,6 @@ returns-in-Sev-clause-ok c = grind (arith, common_steps)
 
 pub returns-after-invalid-clause-ok : goal.returns-after-invalid-clause-ok
 returns-after-invalid-clause-ok c = grind (arith, common_steps)
+
+pub returns-in-LoopAgain-clause-ok : goal.returns-in-LoopAgain-clause-ok
+returns-in-LoopAgain-clause-ok c = rw c.in-LoopAgain.is (rw c.again_flag.ensures at c.push-in-LoopAgain.ensures.ok)
