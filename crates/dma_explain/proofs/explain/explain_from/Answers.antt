@@ -1,9 +1,9 @@
-use Rattle.std.proofs.Common.{◌≡◌, ◌≢◌, ℕ, ◌+◌, List, arith, inr, refl, ap, subst, sym, ◌∙◌, Ok, Err}
-use Rattle.dma_insn.specs.declared.chip.ChipInsn.{ChipInsn, TheVariants.End}
-use Rattle.dma_explain.specs.declared.explain.Cause.TheVariants.{Fails, NoEnd}
+use Rattle.std.proofs.Common.{◌≡◌, ◌≢◌, ℕ, ◌+◌, arith, inr, refl, ap, subst, sym, ◌∙◌, Ok, Err}
+use Rattle.dma_insn.specs.declared.chip.ChipInsn.{TheVariants.End}
+use Rattle.dma_explain.specs.declared.explain.Cause.TheVariants.{Fails, NoEnd, TooLong}
 use Rattle.dma_chan.specs.declared.exec.Registers.{Registers}
 use Rattle.dma_explain.specs.{Known.MayBegin, Known.RefusesFrom, declared.explain.Unexplained.Unexplained, inner.Tracing.Follows, inner.Tracing.trace_of}
-use Rattle.dma_explain.specs.inner.Knowing.{known_after, over_in}
+use Rattle.dma_explain.specs.inner.Knowing.{over_in}
 use Rattle.dma_explain.proofs.Explaining.{counts_bursts, counts_late, finds, refuses, stops_here}
 use Rattle.dma_explain.proofs.Knowing.{begins_given, keeps_over, leads_on, over_copied, over_new, stays_known}
 use Rattle.dma_explain.proofs.RefusedKnowing.{halts_short, refused_for, refused_here, stops_unknown}
@@ -121,3 +121,8 @@ returns-clause-err c = λ _ _.
     let x = over_in now.tracer.known start now.tracer in
     let follows = subst (λ (n : ℕ). Follows start program n x) all (now.invariant.follows start may) in
     refuses start program c.args.most c.args.most x NoEnd 0 _ follows (inr (refl, refl)) refl refl)
+
+pub returns-clause-long : goal.returns-clause-long
+returns-clause-long c =
+    let is : c.refusal-2.result.cause ≡ NoEnd = ap (λ (u : Unexplained). u.cause) c.refusal-2.ensures in
+    (λ long. absurd (let bad : NoEnd ≡ TooLong = sym is ∙ long in cc), λ far. absurd (omega (arith, far, c.if-program-gt-MAX_PROGRAM_BYTES.false)))
