@@ -245,15 +245,20 @@ write_exact k at value d regions has =
 
 turn_exact : (k n most : ℕ) (d e : DeviceValue) (regions left : List Region) (turn : Turn) → HasLine d k → TakesTurn d regions n most e left turn
     → Exact k d.events e.events (Sets k (Turns n most) d regions) (Ends k (Turns n most) d regions)
-turn_exact k n most d e regions left turn has x = grind (arith, turn_device, turn_sets)
+turn_exact k n most d e regions left turn has x =
+    subst (λ (v : DeviceValue). Exact k d.events v.events (Sets k (Turns n most) d regions) (Ends k (Turns n most) d regions)) (turn_device x)
+    (turn_sets d regions n most k has)
 
 access_exact : (k : ℕ) (a : Access) (d e : DeviceValue) (regions left : List Region) (answer : Answer) → HasLine d k → Does a d regions answer e left
     → Exact k d.events e.events (Sets k a d regions) (Ends k a d regions)
-access_exact k (Writes at value) d e regions left answer has x = grind (arith, write_exact)
+access_exact k (Writes at value) d e regions left answer has x =
+    subst (λ (v : DeviceValue). Exact k d.events v.events (Sets k (Writes at value) d regions) (Ends k (Writes at value) d regions)) (sym x.1)
+    (write_exact k at value d regions has)
 access_exact k (Turns n most) d e regions left answer has x = turn_exact k n most d e regions left x.0 has x.1.1
 access_exact k Resets d e regions left answer has x = grind (arith, bit_at-zero)
 access_exact k (Restores saved) d e regions left answer has x = restored_bit k saved.events d.events e.events (ap (λ (v : DeviceValue). v.events) x.1)
-access_exact k a d e regions left answer has x = grind (arith, exact_if_same)
+access_exact k a d e regions left answer has x =
+    exact_if_same k d.events e.events (Sets k a d regions) (Ends k a d regions) (ap (λ (v : DeviceValue). v.events) x.1) (λ up. up.1) (λ down. down)
 
 -- ---- accesses in a row
 
@@ -264,4 +269,5 @@ events_are_exact access answer before lent left count k n happen has within =
     (all_have access answer before lent left count k happen has j (omega arith)) (happen j less)) n within
 
 pub taken_was_set : TakenWasSet
-taken_was_set = grind (arith, turn_takes_set)
+taken_was_set (Turns n most) d e regions left answer k does has takes = turn_takes_set d regions n most k has takes
+taken_was_set a d e regions left answer k does has takes = absurd takes

@@ -94,7 +94,11 @@ module _ (work : Work) (n : ℕ) where
 
   pub after_turn : (d : DeviceValue) (regions : List Region) (most : ℕ) (e : DeviceValue) (left : List Region) (turn : Turn) → HasCopy d
       → TakesTurn d regions n most e left turn → HasCopy e
-  after_turn d regions most e left turn g x = grind (arith, turn_device, after_call, follows_runs, middle_copy)
+  after_turn d regions most e left turn g x =
+      let first = first_in d regions n most in
+      let m = first.left.device in
+      subst HasCopy (turn_device x)
+      (after_call (marks_in regions) (follows m n first.called) 1 first.left (follows_runs m n first.called) (middle_copy d regions most g))
 
   pub turn_stays : (d : DeviceValue) (regions : List Region) (most : ℕ) (e : DeviceValue) (left : List Region) (turn : Turn) → HasCopy d
       → TakesTurn d regions n most e left turn → StaysIn work d regions n most turn

@@ -93,7 +93,12 @@ is_sync next = false
 
 -- what is true of each of the first five numbers
 pub all_five : (P : ℕ → Type 0) → P 0 → P 1 → P 2 → P 3 → P 4 → (k : ℕ) → k < 5 → P k
-all_five P h h2 h3 h4 h5 k h6 = grind (arith)
+all_five P h h2 h3 h4 h5 zero less = h
+all_five P h h2 h3 h4 h5 (suc zero) less = h2
+all_five P h h2 h3 h4 h5 (suc (suc zero)) less = h3
+all_five P h h2 h3 h4 h5 (suc (suc (suc zero))) less = h4
+all_five P h h2 h3 h4 h5 (suc (suc (suc (suc zero)))) less = h5
+all_five P h h2 h3 h4 h5 (suc (suc (suc (suc (suc k))))) less = absurd (omega arith)
 
 goes_on : (k : ℕ) → k < 5 → GoesOn (next_in program (traced start program k)) (traced start program k)
 unfolding is_control control_of end_at burst_at

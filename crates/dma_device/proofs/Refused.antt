@@ -1,6 +1,6 @@
 -- A program that a DMAGO starts and that the device refuses for a fault never ends, and fails so.
 use Rattle.std.proofs.Common.{◌≡◌, ◌≢◌, ◌∙◌, ◌⊎◌, ℕ, zero, suc, ◌+◌, ◌-◌, ◌%◌, ◌^◌, ◌<◌, ◌≤◌, Bool, true, false, ◌&&◌, List, length, get_or, Option, Some}
-use Rattle.std.proofs.Common.{ap, refl, sym, subst, arith, inl, inr, true≢false}
+use Rattle.std.proofs.Common.{None, ap, refl, sym, subst, arith, inl, inr, true≢false}
 use Rattle.std.specs.{Prelude.IsSomeAnd, Prelude.nat_eq, Prelude.nat_lt, Prelude.slice_get, Option.option_map}
 use Rattle.std.proofs.lemmas.Bool.{and_parts, false_from_ne_true, lt-ltb, or_parts, true_from_ne_false}
 use Rattle.dma_insn.specs.ControlWord.{flag}
@@ -86,7 +86,14 @@ module _ (go : Go) (most : ℕ) (u : Unexplained) (kind : FaultKind) (run : Give
   answer_stuck : (events : ℕ) (t : Thread) (last : Option ChanTurn) (signal : Option ℕ)
       → LastLeads (start_of go) go.program most u kind refuses h.fault last t.channel → t.base ≡ go.addr → t.pc ≡ (t.base + t.channel.registers.pc) % 2 ^ 32
       → (Knows → (e : ℕ) → last ≡ Some Moved → signal ≡ Some e → e < events) → Stuck (answer events t last signal)
-  answer_stuck events t last signal h h2 h3 h4 = grind (arith, lt-ltb, at_refused)
+  answer_stuck events t None signal h h2 h3 h4 = grind (arith, at_refused)
+  answer_stuck events t (Some Moved) None h h2 h3 h4 = grind (arith, at_refused)
+  answer_stuck events t (Some Moved) (Some e) h h2 h3 h4 =
+      let fits : Knows → e < events = λ knows. h4 knows e refl refl in
+      grind (arith, lt-ltb, at_refused, fits)
+  answer_stuck events t (Some (Waiting e)) signal h h2 h3 h4 = grind (arith, lt-ltb, at_refused)
+  answer_stuck events t (Some Ended) signal h h2 h3 h4 = grind (arith, at_refused)
+  answer_stuck events t (Some (Fault f)) signal h h2 h3 h4 = grind (arith, at_refused)
 
   -- ---- a call of it
 

@@ -1,6 +1,7 @@
-use Rattle.std.proofs.Common.{refl, subst, sym}
-use Rattle.dma_device.specs.Thread.{IsOn, IsSound}
-use Rattle.dma_device.proofs.Sound.{with_new}
+use Rattle.std.proofs.Common.{◌∙◌, ap, refl, subst, sym}
+use Rattle.dma_device.specs.{Device.DeviceValue, Thread.IsOn, Thread.IsSound}
+use Rattle.std.proofs.lemmas.Bool.{ne_eqb}
+use Rattle.dma_device.proofs.{Found.found_at, Found.none_at, Sound.with_new}
 use Rattle.dma_device.proofs.device.Device.debug_thread.Goals as goal
 
 pub invariant_of-self : goal.invariant_of-self
@@ -23,3 +24,26 @@ invariant_of-self-else-is_event c =
     with_new d c.args.n c.index_mut-else-is_event.result.now c.fail-else-is_event.new.self c.self.invariant c.index_mut-else-is_event.ensures.value
     (λ on. subst (IsOn d.config.bus) (sym c.fail-else-is_event.ensures) (record { width = on.width; control = on.control }))
     (subst (IsSound d.config.events) (sym c.fail-else-is_event.ensures) refl)
+
+pub returns-in_default : goal.returns-in_default
+returns-in_default c =
+    let d = c.args.self.now in
+    let same = c.deref.ensures.value ∙ ap (λ (e : DeviceValue). e.threads) c.self.view_is in
+    rw (none_at d.threads c.deref.result.now c.args.n same c.in_default.ensures.lookup.0) refl
+
+pub returns-then-is_faulting : goal.returns-then-is_faulting
+returns-then-is_faulting c =
+    let d = c.args.self.now in
+    let same = c.deref.ensures.value ∙ ap (λ (e : DeviceValue). e.threads) c.self.view_is in
+    let lookup = c.in-Some.ensures.lookup in
+    let found = (found_at d.threads c.deref.result.now c.args.n c.in-Some.thread.now same lookup.0 lookup.1).1 in
+    rw (found, ne_eqb c.args.opcode 1 c.if-opcode-eq-DMAKILL.false, sym c.if-is_faulting.ensures) refl
+
+pub returns-then-is_event : goal.returns-then-is_event
+returns-then-is_event c =
+    let d = c.args.self.now in
+    let same = c.deref.ensures.value ∙ ap (λ (e : DeviceValue). e.threads) c.self.view_is in
+    let lookup = c.in-Some.ensures.lookup in
+    let found = (found_at d.threads c.deref.result.now c.args.n c.in-Some.thread.now same lookup.0 lookup.1).1 in
+    rw (found, ne_eqb c.args.opcode 1 c.if-opcode-eq-DMAKILL.false, sym c.if-is_faulting.ensures, c.if-opcode-ne-DMASEV.false, sym c.if-is_event.ensures)
+    c.signal.ensures

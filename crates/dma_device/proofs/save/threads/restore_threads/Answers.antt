@@ -61,3 +61,15 @@ returns-in_default-clause-all c ts count values on is =
 
 pub returns-clause-values : goal.returns-clause-values
 returns-clause-values c = λ _ k d less. c.loop-n.invariant.values k d (omega arith)
+
+pub returns-clause-ok : goal.returns-clause-ok
+returns-clause-ok c = grind (arith, common_steps)
+
+pub returns-clause-sound : goal.returns-clause-sound
+returns-clause-sound c = c.loop-n.invariant.sound
+
+pub returns-clause-on : goal.returns-clause-on
+returns-clause-on c = c.loop-n.invariant.on
+
+pub returns-clause-all : goal.returns-clause-all
+returns-clause-all c = grind (arith, common_steps)

@@ -1,6 +1,6 @@
-use Rattle.std.proofs.Common.{◌≡◌, ◌∙◌, ◌+◌, ◌-◌, ◌/◌, ◌%◌, ◌^◌, ◌++◌, ℕ, List, Some, ap, arith, drop, length, subst, sym, take, true≢false}
-use Rattle.std.proofs.lemmas.List.{length-drop, length-take}
-use Rattle.std.proofs.{lemmas.Grind.common_steps, Math.Seq.take-add, lemmas.Bool.Decides.Decides-eqb, lemmas.Slice.Eq.slice_eq-Decides}
+use Rattle.std.proofs.Common.{◌≡◌, ◌∙◌, ◌+◌, ◌-◌, ◌/◌, ◌%◌, ◌^◌, ◌≤◌, ◌++◌, ℕ, List, Some, ap, arith, drop, length, refl, subst, sym, take, true≢false}
+use Rattle.std.proofs.lemmas.List.{length-drop, length-take-le}
+use Rattle.std.proofs.{Math.Seq.take-add, lemmas.Bool.Decides.Decides-eqb, lemmas.Slice.Eq.slice_eq-Decides}
 use Rattle.std.specs.Prelude.{nat_eq}
 use Rattle.dma_insn.specs.ControlWord.{flag}
 use Rattle.dma_chan.specs.Channel.{ChannelValue, on_bus}
@@ -24,7 +24,9 @@ read channel status fault word base pc = record {
 
 read_is : (t : Thread) (channel : ChannelValue) (status : Status) (fault word base pc : ℕ) → channel ≡ t.channel → status ≡ t.status → fault ≡ t.fault
     → word / 2 ^ 21 % 2 ≡ flag t.nonsecure → base ≡ t.base → pc ≡ t.pc → read channel status fault word base pc ≡ t
-read_is t channel status fault word base pc a b d n e f = grind (arith, common_steps, bit_back)
+read_is t channel status fault word base pc a b d n e f =
+    let bit : nat_eq (word / 2 ^ 21 % 2) 1 ≡ t.nonsecure = ap (λ (m : ℕ). nat_eq m 1) n ∙ bit_back t.nonsecure in
+    rw (a, b, d, bit, e, f) refl
 
 -- a channel on this bus already
 on_bus_same : (bus : BusWidth) (t : Thread) → IsOn bus t → on_bus (Chip bus) t.channel ≡ t.channel
@@ -91,7 +93,8 @@ returns-then-eq-clause-found c =
     let new = read c.restore.new.self c.in-Some.status c.u32_at-self.result c.u32_at-csr.result c.u32_at-self-2.result c.u32_at-self-3.result in
     let same = (slice_eq-Decides Decides-eqb _ _ _ c.eq.ensures).0 c.if-eq.true in
     let head : take 20 bytes ≡ thread_bytes new len = sym same ∙ c.as_slice.ensures.value ∙ c.head_bytes-again.ensures.bytes in
-    let count : len ≡ length (saved new.channel) = grind (arith, length-take, tail_is) in
+    let fits : len ≤ length (drop 20 bytes) = subst (λ (l : List ℕ). len ≤ length l) (tail_is 20 bytes) c.if-rest-len.false in
+    let count = sym (length-take-le len (drop 20 bytes) fits) ∙ ap length channel in
     take-add 20 len bytes ∙ ap (λ (l : List ℕ). l ++ take len (drop 20 bytes)) head
     ∙ ap (λ (l : List ℕ). thread_bytes new len ++ l) channel
     ∙ ap (λ (n : ℕ). thread_bytes new n ++ saved new.channel) count
@@ -109,3 +112,39 @@ returns-else-eq-clause-all c t rest v on e =
     c.as_slice.ensures.value ∙ c.head_bytes-again.ensures.bytes ∙ ap (λ (u : Thread). thread_bytes u c.u32_at-len.result) was.1
     ∙ ap (λ (n : ℕ). thread_bytes t n) was.0 ∙ sym (thread_found c.args.config.events t rest c.args.bytes.now c.requires.few v e).head in
     absurd (cc ((slice_eq-Decides Decides-eqb _ _ _ c.eq.ensures).1 again, c.if-eq.false))
+
+pub is_possible-requires : goal.is_possible-requires
+is_possible-requires c = c.in-Ok.ensures.bus
+
+pub returns-in_default-restore-clause-sound : goal.returns-in_default-restore-clause-sound
+returns-in_default-restore-clause-sound c =
+    subst (λ (h : ChannelValue). IsSound c.args.config.events (record (c.args.self.now) { channel = h })) (sym c.in_default-restore.ensures.unchanged)
+    c.requires.sound
+
+pub returns-in_default-restore-clause-on : goal.returns-in_default-restore-clause-on
+returns-in_default-restore-clause-on c =
+    subst (λ (h : ChannelValue). IsOn c.args.config.bus (record (c.args.self.now) { channel = h })) (sym c.in_default-restore.ensures.unchanged) c.requires.on
+
+pub returns-then-not-is_possible-clause-sound : goal.returns-then-not-is_possible-clause-sound
+returns-then-not-is_possible-clause-sound c = subst (IsSound c.args.config.events) (sym c.reset.ensures) refl
+
+pub returns-then-eq-clause-value : goal.returns-then-eq-clause-value
+returns-then-eq-clause-value c = record {
+  sound = (c.is_possible.ensures.0 c.if-not-is_possible.false).0;
+  fault = c.u32_at-self.type_inv;
+  base = c.u32_at-self-2.type_inv;
+  pc = c.u32_at-self-3.type_inv;
+  channel = c.in-Ok.ensures.channel;
+}
+
+pub returns-then-eq-clause-sound : goal.returns-then-eq-clause-sound
+returns-then-eq-clause-sound c = (c.is_possible.ensures.0 c.if-not-is_possible.false).0
+
+pub returns-then-eq-clause-on : goal.returns-then-eq-clause-on
+returns-then-eq-clause-on c = (c.is_possible.ensures.0 c.if-not-is_possible.false).1
+
+pub returns-else-eq-clause-sound : goal.returns-else-eq-clause-sound
+returns-else-eq-clause-sound c = (c.is_possible.ensures.0 c.if-not-is_possible.false).0
+
+pub returns-else-eq-clause-on : goal.returns-else-eq-clause-on
+returns-else-eq-clause-on c = (c.is_possible.ensures.0 c.if-not-is_possible.false).1

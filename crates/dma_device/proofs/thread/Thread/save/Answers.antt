@@ -23,3 +23,9 @@ returns-clause-bytes c =
     ∙ ap (λ (l : List ℕ). thread_bytes t len ++ l) tail
     ∙ sym (append_assoc (thread_bytes t len) (saved t.channel) (drop (20 + len) out))
     ∙ ap (λ (n : ℕ). (thread_bytes t n ++ saved t.channel) ++ drop (20 + len) out) c.in-Some.ensures.len
+
+pub unreachable-requires : goal.unreachable-requires
+unreachable-requires c = grind (arith, thread_length)
+
+pub returns-clause-len : goal.returns-clause-len
+returns-clause-len c = omega (arith, c.in-Some.ensures.len, thread_length c.args.self.now)
