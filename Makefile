@@ -44,11 +44,13 @@ ifneq ($(KIT),)
 $(PROVED): FORCE
 	@./prove --is-built dma_ffi >/dev/null || ./prove dma_ffi
 
-# Merged each time, and replaced only if the result differs: what links it then stays as it is.
+# Merged each time, and replaced only if the result differs: what links it then stays as it is. (Its name has the number
+# of a process, since two makes may run at once.)
 $(LIB): $(PROVED) FORCE
 	@mkdir -p out
-	@printf 'CREATE $@.new\nADDLIB $<\nADDLIB $(KIT)/c/liblibc_c.a\nSAVE\nEND\n' | $(AR) -M
-	@if cmp -s $@.new $@; then rm $@.new; else mv $@.new $@; fi
+	@new=$@.$$$$; \
+		printf "CREATE $$new\nADDLIB $<\nADDLIB $(KIT)/c/liblibc_c.a\nSAVE\nEND\n" | $(AR) -M && \
+		if cmp -s $$new $@; then rm $$new; else mv $$new $@; fi
 else
 $(LIB):
 	@echo '$@ and the command rt, which builds it, are missing: see "Set up" in README.md' >&2; exit 1
