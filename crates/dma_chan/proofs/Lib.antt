@@ -30,6 +30,7 @@ pub mod StepsTaken
 pub mod SteppedOver
 pub mod Pace
 pub mod RowMoves
+pub mod OneStep
 pub mod OthersKept
 pub mod CallWrites
 pub mod ReadsOnly

@@ -1,11 +1,12 @@
 -- How many instructions running a tree executes, counted without writing them out, and a bound for a transfer's.
-use Rattle.std.proofs.Common.{◌≡◌, ℕ, zero, suc, ◌+◌, ◌*◌, ◌≤◌, List, [], ◌∷◌, length, map, Bool, Option, refl, ap, ◌∙◌, arith}
+use Rattle.std.proofs.Common.{◌≡◌, ℕ, zero, suc, ◌+◌, ◌*◌, ◌/◌, ◌%◌, ◌≤◌, List, [], ◌∷◌, length, map, Bool, Option, refl, ap, ◌∙◌, arith}
 use Rattle.std.proofs.Common.{length-append}
 use Rattle.std.proofs.Math.Nat.{div-mul-le_self}
 use Rattle.dma_insn.specs.{declared.chip.ChipInsn.ChipInsn}
 use Rattle.dma_insn.specs.{declared.control.BeatSize.BeatSize, ControlWord.beat_bytes}
+use Rattle.dma_insn.specs.declared.control.BeatSize.TheVariants as sizes
 use Rattle.dma_mem.specs.Places.{Descriptor}
-use Rattle.dma_chan.specs.Compiled.{members_on, cost, cost_on, tree_on, piece_tree, parts, where_some, bursts, beat_of}
+use Rattle.dma_chan.specs.Compiled.{members_on, cost, cost_on, tree_on, piece_tree, parts, where_some, bursts, beat_of, body, control_word, under}
 use Rattle.dma_chan.specs.Compiled.{wait_tree, signal_tree}
 use Rattle.dma_chan.specs.Tree.{Tree, One, Then, Nothing, Repeat, unrolled, times, in_order}
 use Rattle.dma_chan.specs.Layer.{CostIs, CostOnBus}
@@ -56,7 +57,15 @@ bursts_below q b h = grind (arith)
 
 parts_counted : (fill : Bool) (size : BeatSize) (n : ℕ) → 1 ≤ beat_bytes size → 16 * counted (parts fill size n) ≤ 208 + 6 * n
 unfolding parts
-parts_counted fill size n low = grind (arith, bursts_counted, bursts_below, div-mul-le_self, some_counted)
+parts_counted fill size n low =
+    let b = beat_bytes size in
+    let q = n / (16 * b) in
+    let m = n % (16 * b) / b in
+    let t = n % (16 * b) % b in
+    let rounds = some_counted q (3 + 6 * q) (under (control_word fill size 16) (bursts q)) (omega (arith, bursts_counted q)) in
+    let beats = some_counted m 5 (under (control_word fill size m) body) (omega arith) in
+    let bytes = some_counted t 5 (under (control_word fill sizes.One t) body) (omega arith) in
+    omega (arith, rounds, beats, bytes, bursts_below q b low, div-mul-le_self n (16 * b))
 
 piece_counted : (bus : Bus) (p : Piece) → 16 * counted (piece_tree bus p) ≤ 240 + 6 * p.len
 piece_counted bus p = let all = parts_counted p.fill (beat_of bus p) p.len (beat_right bus p).low in omega (arith, all)

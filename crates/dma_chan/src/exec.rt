@@ -348,9 +348,7 @@ impl Executor {
             }
             ChipInsn::Ld => (load_burst(self, memory, marks), 0),
             ChipInsn::St => store_burst(self, memory, marks),
-            ChipInsn::Rmb => (go_on(&mut self.registers), 0),
-            ChipInsn::Wmb => (go_on(&mut self.registers), 0),
-            ChipInsn::Nop => (go_on(&mut self.registers), 0),
+            ChipInsn::Rmb | ChipInsn::Wmb | ChipInsn::Nop => (go_on(&mut self.registers), 0),
             ChipInsn::Lp { counter, times } => {
                 (begin_loop(counter, times, &mut self.registers), 0)
             }
@@ -369,9 +367,7 @@ impl Executor {
                 (turn, 0)
             }
             ChipInsn::LoopAgain { back, .. } => (loop_again(back, &mut self.registers), 0),
-            ChipInsn::Sev(_) => unreachable!(),
-            ChipInsn::Wfe { .. } => unreachable!(),
-            ChipInsn::End => unreachable!(),
+            ChipInsn::Sev(_) | ChipInsn::Wfe { .. } | ChipInsn::End => unreachable!(),
         }
     }
 }

@@ -1,6 +1,6 @@
 use Rattle.std.proofs.Common.{ℕ, ◌+◌, List, [], refl, sym, ap, ◌∙◌, subst, arith}
 use Rattle.dma_chan.specs.{Exec.State, Channel.state_of, Run.opening}
-use Rattle.dma_chan.proofs.RunAlone.{HasRun, made_at_end, made_at_refusal, made_on, made_past, run_on, stops_unread}
+use Rattle.dma_chan.proofs.RunAlone.{HasRun, made_at_end, made_at_refusal, made_on, made_past, needs_page, run_on, stops_unread, stops_with}
 use Rattle.dma_mem.specs.Lent.{with_gaps}
 use Rattle.dma_chan.specs.declared.run.RunEnd.TheVariants as ends
 use Rattle.dma_chan.proofs.run.run_on.Goals as goal
@@ -39,6 +39,37 @@ returns-in-Err-clause-ok g c =
       ),
       refl,
     )
+
+pub returns-in-Waiting-clause-ok : goal.returns-in-Waiting-clause-ok
+returns-in-Waiting-clause-ok g c =
+    let loan = c.prepare.ensures.loan ∙ c.loop-turn.invariant.loan in
+    let step = c.execute.ensures.step in
+    let stop = stops_with c.loop-turn.invariant.run c.args.limit c.loop-turn-test.true c.prepare.ensures.image (rw (c.requires.none, loan) at step.turn)
+    c.in-Waiting.is (rw (c.requires.none, loan) at step.memory) in
+    (stop.0, (c.loop-turn.turn, stop.1), stop.2)
+
+pub returns-in-Ended-clause-ok : goal.returns-in-Ended-clause-ok
+returns-in-Ended-clause-ok g c =
+    let loan = c.prepare.ensures.loan ∙ c.loop-turn.invariant.loan in
+    let step = c.execute.ensures.step in
+    let stop = stops_with c.loop-turn.invariant.run c.args.limit c.loop-turn-test.true c.prepare.ensures.image (rw (c.requires.none, loan) at step.turn)
+    c.in-Ended.is (rw (c.requires.none, loan) at step.memory) in
+    (stop.0, (c.loop-turn.turn, refl, stop.1), stop.2)
+
+pub returns-in-Fault-clause-ok : goal.returns-in-Fault-clause-ok
+returns-in-Fault-clause-ok g c =
+    let loan = c.prepare.ensures.loan ∙ c.loop-turn.invariant.loan in
+    let step = c.execute.ensures.step in
+    let stop = stops_with c.loop-turn.invariant.run c.args.limit c.loop-turn-test.true c.prepare.ensures.image (rw (c.requires.none, loan) at step.turn)
+    c.in-Fault.is (rw (c.requires.none, loan) at step.memory) in
+    (stop.0, (c.loop-turn.turn, c.pc-pc.ensures ∙ sym (ap (λ (s : State). s.registers.pc) c.loop-turn.invariant.run.here), stop.1), stop.2)
+
+pub returns-in-Err-prepare-clause-err : goal.returns-in-Err-prepare-clause-err
+returns-in-Err-prepare-clause-err g c = (
+  c.requires.limit,
+  needs_page c.loop-turn.invariant.run (g.M.Ram.paged c.prepare.new.memory) c.args.limit c.loop-turn-test.true c.prepare.ensures.image
+      (rw c.in-Err-prepare.is at c.prepare.ensures.short),
+)
 
 pub returns-in-Err-clause-others : goal.returns-in-Err-clause-others
 returns-in-Err-clause-others g c =
