@@ -1,8 +1,8 @@
-use Rattle.std.proofs.Common.{◌≡◌, ◌∙◌, ap, arith, refl, sym}
+use Rattle.std.proofs.Common.{◌≡◌, ◌∙◌, ap, arith, refl, subst, sym}
 use Rattle.dma_mem.specs.declared.call.Call.TheVariants.{Submit}
-use Rattle.dma_engine.specs.{declared.call.Reply.TheVariants.Cookie, Ticks.Submitted}
+use Rattle.dma_engine.specs.{declared.call.Reply.TheVariants.Cookie, Answer.CallAnswers, Ticks.Submitted, View.View}
 use Rattle.dma_engine.proofs.{CallLists.answers_extend, CookieCounts.submits_add}
-use Rattle.dma_work.specs.{inner.DeskKept.IsKept, inner.Published.PublishedList, inner.Published.SnapshotState}
+use Rattle.dma_work.specs.{Desk.DeskState, inner.DeskKept.IsKept, inner.Published.PublishedList, inner.Published.SnapshotState}
 use Rattle.dma_work.proofs.{Desks.acted_next, Desks.given_in, Desks.kept_next, desk.Desk.submit.Given.Over}
 use Rattle.dma_work.proofs.desk.Desk.submit.Goals as goal
 
@@ -42,3 +42,13 @@ invariant_of-self-2 g c = kept g c.before
 
 pub returns-clause-ticket : goal.returns-clause-ticket
 returns-clause-ticket g c = listed g c.before ∙ ap (λ (x : PublishedList). x.ticks) (kept g c.before).shown
+
+pub returns-clause-ok : goal.returns-clause-ok
+returns-clause-ok g c =
+    let w = c.submit.new.self.view in
+    let call = Submit c.args.ch c.args.transfer in
+    let reply = Cookie c.in-Ok.cookie in (
+      refl,
+      subst (λ (d : DeskState). CallAnswers d.engine.view call reply w) c.self.view_is
+          (subst (λ (v : View). CallAnswers v call reply w) c.make_room.ensures.view c.in-Ok.ensures.answer),
+    )
