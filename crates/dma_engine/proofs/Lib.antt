@@ -15,6 +15,7 @@ pub mod QueueCalls
 pub mod TransferRules
 pub mod StartsAndEnds
 pub mod StepCases
+pub mod EarlyTurns
 pub mod Fronts
 pub mod Instructions
 pub mod Moves

@@ -34,3 +34,9 @@ returns-in-Some c =
     let known = front_with_cookie_law (state_in (parts_of c.self.inside) c.args.ch) (rw (c.from-index.ensures, ← c.self.view_is) at c.in-Some.ensures) in
     let same : is_some u.signal ≡ is_some r.transfer.signal = ap (λ (o : Option Descriptor). is_some (unwrap_or o u).signal) (sym known.0 ∙ r.issued) in
     rw (← c.self.view_is) (c.is_some.ensures ∙ ap is_some c.signal.ensures ∙ same ∙ sym (signalled_end r (next ∙ sym c.insn.ensures ∙ c.in-End.is)))
+
+pub returns-in-None : goal.returns-in-None
+returns-in-None c =
+    let r = it (goal.at.returns-in-None c).After-next in
+    let none = rw (c.from-index.ensures, ← c.self.view_is, r.issued) at c.in-None.ensures in
+    absurd (cc none)

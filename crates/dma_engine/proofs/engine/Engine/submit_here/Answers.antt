@@ -1,8 +1,12 @@
-use Rattle.std.proofs.Common.{◌≡◌, ap, length, arith, refl, None}
+use Rattle.std.proofs.Common.{◌≡◌, ◌∙◌, ◌+◌, ℕ, List, ap, length, arith, refl, None}
+use Rattle.dma_mem.specs.{Places.Descriptor, declared.call.Call.TheVariants.Submit}
+use Rattle.dma_engine.specs.{Answer.CallAnswers, Turn.with_entry, Object.used, View.View, View.state_at}
+use Rattle.dma_engine.specs.declared.{call.Reply.TheVariants.Cookie, call.Reply.TheVariants.Refused, fault.EngineFault.TheVariants.NoMemory}
+use Rattle.dma_engine.specs.declared.{fault.EngineFault.EngineFault, fault.SubmitFault.SubmitFault, entry.Entry.Entry, queue.Queue.Queue}
 use Rattle.dma_engine.specs.{declared.entry.Entry.TheVariants.Submitted, Answer.submit_fault, inner.Holds.queue_submitted, inner.Holds.view_of}
 use Rattle.dma_engine.specs.{inner.Inside.parts_of, View.channels}
-use Rattle.dma_engine.proofs.CallCases.{checked_cookie, checked_none, submit_done, submit_open}
-use Rattle.dma_engine.proofs.Queues.{HoldsAt, holds_at, many_queues, seen}
+use Rattle.dma_engine.proofs.CallCases.{checked_cookie, checked_none, starved, submit_done, submit_open}
+use Rattle.dma_engine.proofs.Queues.{HoldsAt, holds_at, many_queues, queue_back, seen}
 use Rattle.dma_engine.proofs.{QueueCalls.holds_submitted, QueueCalls.view_entered, engine.Engine.submit_here.Goals.After-index_mut-queue}
 use Rattle.dma_engine.proofs.engine.Engine.submit_here.Goals as goal
 
@@ -42,3 +46,26 @@ index_mut-queue-requires c =
     let is : view_of p ≡ v = seen c.self.view_is in
     let free = submit_open v c.args.ch c.args.transfer (checked_none (submit_fault v c.args.ch c.args.transfer) _ c.args.cookie c.requires.checked) in
     omega (arith, many_queues p c.self.invariant, ap channels is, free.0, c.from.ensures, c.self.inside.queues.ok.0)
+
+-- a submit that nothing refuses is out of memory
+out : (v w : View) (ch : ℕ) (t : Descriptor) (fault : EngineFault) → submit_fault v ch t ≡ None → fault ≡ NoMemory → w ≡ v
+    → CallAnswers v (Submit ch t) (Refused fault) w
+out v w ch t fault none is back =
+    let e = Submitted ch t (used (state_at v ch) + 1) in
+    rw (is, back) (starved v (Submit ch t) (Cookie (used (state_at v ch) + 1)) (with_entry v e) e (rw none refl) refl)
+
+pub returns-in_default-clause-answer : goal.returns-in_default-clause-answer
+returns-in_default-clause-answer c =
+    let p = parts_of c.self.inside in
+    out c.args.self.now.view _ c.args.ch c.args.transfer _ (checked_none _ _ _ c.requires.checked)
+    (ap (λ (r : SubmitFault). r.fault) c.no_memory.ensures)
+    (ap (λ (h : List Entry). view_of (record p { history = h })) c.reserve.ensures.items ∙ seen c.self.view_is)
+
+pub returns-in_default-submit-clause-answer : goal.returns-in_default-submit-clause-answer
+returns-in_default-submit-clause-answer c =
+    let p = parts_of c.self.inside in
+    let queues = queue_back p.queues c.from.result c.in_default-submit.ensures.refused c.index_mut-queue.ensures.value in
+    out c.args.self.now.view _ c.args.ch c.args.transfer _ (checked_none _ _ _ c.requires.checked)
+    (ap (λ (r : SubmitFault). r.fault) c.no_memory-in_default-submit.ensures)
+    (ap (λ (q : List Queue). view_of (record p { queues = q; history = c.reserve.new.self.items })) queues
+    ∙ ap (λ (h : List Entry). view_of (record p { history = h })) c.reserve.ensures.items ∙ seen c.self.view_is)

@@ -1,7 +1,9 @@
 use Rattle.std.proofs.Common.{arith, refl}
 use Rattle.std.proofs.{lemmas.Grind.common_steps}
+use Rattle.dma_mem.specs.declared.call.Call.TheVariants.{Terminate}
 use Rattle.dma_engine.specs.{inner.Holds.view_of, inner.Inside.parts_of}
-use Rattle.dma_engine.proofs.CallCases.{terminate_done, terminate_starved}
+use Rattle.dma_engine.specs.declared.{call.Reply.TheVariants.Count, fault.EngineFault.TheVariants.NoChannel, fault.EngineFault.TheVariants.NoMemory}
+use Rattle.dma_engine.proofs.CallCases.{channel_gone, refusal, terminate_done, terminate_starved}
 use Rattle.dma_engine.proofs.{StartsAndEnds.holds_terminated, StartsAndEnds.view_terminated, Queues.HoldsAt, Queues.queue_there, Queues.seen, Queues.queue_back}
 use Rattle.dma_engine.proofs.{Rooms.unfinished_found, Sizes.many_channels, engine.Engine.terminate.Goals.After-index_mut-queue, Queues.holds_there}
 use Rattle.dma_engine.proofs.engine.Engine.terminate.Goals as goal
@@ -63,13 +65,28 @@ pub index_mut-queue-requires : goal.index_mut-queue-requires
 index_mut-queue-requires c = omega (arith, queue_there c.self.invariant (seen c.self.view_is) c.in_ok-index.ensures.there, c.self.inside.queues.ok.0)
 
 pub returns-in_err-reserve-clause-answer : goal.returns-in_err-reserve-clause-answer
-returns-in_err-reserve-clause-answer c = grind (arith, terminate_starved)
+returns-in_err-reserve-clause-answer c =
+    let v = view_of (parts_of c.self.inside) in
+    let there = rw (← c.self.view_is) at c.in_ok-index.ensures.there in
+    rw (← c.self.view_is, c.reserve.ensures.items)
+    (refusal (λ count. Count count) v v (Terminate c.args.ch) NoMemory c.from_residual-in_err-reserve.result
+    c.from_residual-in_err-reserve.ensures.1 (terminate_starved v c.args.ch there.1))
 
 pub returns-in_err-terminate-clause-answer : goal.returns-in_err-terminate-clause-answer
-returns-in_err-terminate-clause-answer c = grind (arith, queue_back, terminate_starved)
+returns-in_err-terminate-clause-answer c =
+    let p = parts_of c.self.inside in
+    let v = view_of p in
+    let there = rw (← c.self.view_is) at c.in_ok-index.ensures.there in
+    let queues = queue_back p.queues c.in_ok-index.index c.in_err-terminate.ensures.refused c.index_mut-queue.ensures.value in
+    rw (← c.self.view_is, c.reserve.ensures.items, queues)
+    (refusal (λ count. Count count) v v (Terminate c.args.ch) NoMemory c.from_residual-in_err-terminate.result
+    c.from_residual-in_err-terminate.ensures.1 (terminate_starved v c.args.ch there.1))
 
 pub returns-in_err-index-clause-answer : goal.returns-in_err-index-clause-answer
-returns-in_err-index-clause-answer c = grind (arith, common_steps)
+returns-in_err-index-clause-answer c =
+    let v = c.args.self.now.view in
+    refusal (λ count. Count count) v v (Terminate c.args.ch) NoChannel c.from_residual.result
+    (rw c.in_err-index.ensures.none.0 at c.from_residual.ensures.1) (rw (channel_gone v c.args.ch c.in_err-index.ensures.none.1) refl)
 
 pub returns-in_err-terminate-clause-room : goal.returns-in_err-terminate-clause-room
 returns-in_err-terminate-clause-room c = grind (arith, common_steps)
