@@ -372,8 +372,7 @@ impl Subcommand {
 
     /// Returns its command under the name in the usage.
     pub fn named_command<'a>(self, alloc: Global) -> Result<Command<'a>, AllocError> {
-        let name = self.usage().name;
-        let usage = format!(in alloc; "dma330 {name}")?;
+        let usage = format!(in alloc; "dma330 {}", self.usage().name)?;
         self.command(alloc)?.bin_name(usage.as_str())
     }
 }

@@ -53,8 +53,7 @@ pub extern "C" fn dma330_close(alloc: Global, controller: &mut Controller)
     controller.as_kept().close(alloc);
 }
 
-/// Writes bytes to the memory, starting at address `addr`. If the call conflicts with a transfer, it writes that
-/// transfer to `conflict`.
+/// Writes bytes to the memory from `addr` on. If the call conflicts with a transfer, it writes that one to `conflict`.
 #[unsafe(no_mangle)]
 pub extern "C" fn dma330_write(
     controller: &mut Controller,
@@ -71,8 +70,8 @@ pub extern "C" fn dma330_write(
     done_unless(engine.write(addr, bytes), conflict)
 }
 
-/// Reads bytes of the memory, starting at address `addr`, until `out` is full. If the call conflicts with a transfer,
-/// it writes that transfer to `conflict`.
+/// Reads bytes of the memory from `addr` on, until `out` is full. If the call conflicts with a transfer, it writes that
+/// one to `conflict`.
 #[unsafe(no_mangle)]
 pub extern "C" fn dma330_read(
     controller: &mut Controller,

@@ -15,7 +15,9 @@
 mod alone;
 mod amounts;
 mod columns;
+mod copies;
 pub mod explain;
+mod failures;
 mod lines;
 pub mod options;
 mod progress;

@@ -16,11 +16,12 @@ ghost use Rattle.dma_trace.specs.inner.Running.{Ends, RunsOver, machine_over};
 
 use crate::alone::trace_found;
 use crate::amounts::Instructions;
+use crate::failures::Failure;
 use crate::lines::{push_dumps, push_step};
 pub use crate::options::TraceOptions;
 use crate::progress::report;
 use crate::wave::{push_first, push_last, push_next};
-use crate::words::{Failure, LongProgram, Place, Point, State, Why, first_byte};
+use crate::words::{LongProgram, Place, Point, State, Why, first_byte};
 use dma_chan::channel::Channel;
 use dma_chan::exec::Registers;
 use dma_chan::lent::step_regions;

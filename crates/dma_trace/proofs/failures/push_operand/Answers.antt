@@ -3,7 +3,7 @@ use Rattle.std.specs.Prelude.{codes}
 use Rattle.dma_insn.specs.{declared.chip.ChipInsn.ChipInsn, declared.chip.ChipInsn.TheVariants.Mov, declared.insn.Reg.Reg}
 use Rattle.dma_chan.specs.declared.bus.Bus.{Bus}
 use Rattle.dma_trace.specs.Words.{operand_words}
-use Rattle.dma_trace.proofs.words.push_operand.Goals as goal
+use Rattle.dma_trace.proofs.failures.push_operand.Goals as goal
 
 other : (i : ChipInsn) (bus : Bus) → ((reg : Reg) (v : ℕ) → i ≡ Mov reg v → ⊥) → codes "a field is outside its range" ≡ operand_words i bus
 other (Mov reg v) bus no_mov = absurd (no_mov reg v refl)

@@ -2,7 +2,7 @@ use Rattle.std.proofs.Common.{◌≡◌, ◌∙◌, ◌++◌, ℕ, OnOk, Result,
 use Rattle.std.specs.Prelude.{codes}
 use Rattle.dma_insn.specs.{declared.control.Control.Control, declared.control.ControlFault.ControlFault}
 use Rattle.dma_trace.specs.Words.{bytes_text, control_words}
-use Rattle.dma_trace.proofs.words.push_control.Goals as goal
+use Rattle.dma_trace.proofs.failures.push_control.Goals as goal
 
 pub returns-in-Ok-clause-ok : goal.returns-in-Ok-clause-ok
 returns-in-Ok-clause-ok c =

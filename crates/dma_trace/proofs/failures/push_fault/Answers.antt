@@ -3,7 +3,7 @@ use Rattle.std.specs.Prelude.{codes}
 use Rattle.dma_chan.specs.declared.bursts.Burst.{Burst}
 use Rattle.dma_explain.specs.declared.explain.Repeated.{Repeated}
 use Rattle.dma_trace.specs.{Words.fault_words, Words.range_text, Words.span_text}
-use Rattle.dma_trace.proofs.words.push_fault.Goals as goal
+use Rattle.dma_trace.proofs.failures.push_fault.Goals as goal
 
 pub returns-in-DataReadErr-clause-ok : goal.returns-in-DataReadErr-clause-ok
 unfolding fault_words
