@@ -3,6 +3,7 @@
 ghost use Rattle.std.specs.Option.{option_copied};
 ghost use Rattle.std.specs.Prelude.{◌≡◌, ◌-◌, IfErr, IfOk, slice_get};
 ghost use Rattle.dma_explain.specs.Explains.{bursts_in};
+ghost use Rattle.dma_explain.specs.Late.{late_in};
 ghost use Rattle.dma_device.specs.Explaining.{FailsFor, FindsFor, IsLoadedAnd, channel_of};
 
 use crate::device::Device;
@@ -55,6 +56,8 @@ impl Device {
         ensures ok { IfOk result (λ x. FindsFor self.now n most x) }
         ensures bursts { IfOk result (λ x. IsLoadedAnd self.now n
             (λ start program. x.bursts ≡ bursts_in start program (x.steps - 1))) }
+        ensures late { IfOk result (λ x. IsLoadedAnd self.now n
+            (λ start program. x.late ≡ late_in start program (x.steps - 1))) }
         ensures err { IfErr result (λ fault. FailsFor self.now n most fault) }
     {
         let Some(channel) = self.channel(n) else {
