@@ -1,5 +1,5 @@
 -- A transfer's program that is run alone: what it has copied after each instruction, and how it ends.
-use Rattle.std.proofs.Common.{◌≡◌, ◌≢◌, ℕ, zero, suc, ◌+◌, ◌-◌, ◌≤◌, ◌<◌, ◌⊎◌, true, false, List, length, None, Ok, Err, refl, sym, ap}
+use Rattle.std.proofs.Common.{◌≡◌, ◌≢◌, ℕ, zero, suc, ◌+◌, ◌-◌, ◌≤◌, ◌<◌, true, false, List, length, None, Ok, Err, refl, sym, ap}
 use Rattle.std.proofs.Common.{◌∙◌, arith, add-one, inl, inr}
 use Rattle.std.specs.{Prelude.Result, Prelude.IfOk, Prelude.IfErr, List.Contains, List.zip}
 use Rattle.std.proofs.lemmas.Bool.{cases_lt, false_from_ne_true}
@@ -20,15 +20,11 @@ use Rattle.dma_chan.specs.{Fails.NeedsPage, Fails.RunFails, Laws.CompiledCopiesA
 use Rattle.dma_chan.specs.Traffic.{member, burst, read_places, stored_after, written_places}
 use Rattle.dma_chan.proofs.{CopyAlone.laid_over_all, CopyAlone.laid_over_more, CopyAlone.laid_none, OthersKept.none_met}
 use Rattle.dma_chan.proofs.{Pace.agrees_at, Pace.all_move, Pace.comes_to, Pace.last_ends, Pace.late_ends, Pace.shared, PieceCode.compiled_bytes}
-use Rattle.dma_chan.proofs.{RunAlone.HasRun, RunAlone.run_on, RunAlone.turn_here, ShapeLaws.shape_is, ShapeLaws.stored_is}
+use Rattle.dma_chan.proofs.{LayerLaws.is_store, RunAlone.HasRun, RunAlone.run_on, RunAlone.turn_here, ShapeLaws.shape_is, ShapeLaws.stored_is}
 use Rattle.dma_chan.specs.{declared.bus.Bus.TheVariants.Ideal}
 use Rattle.dma_chan.specs.declared.run.RunEnd.TheVariants as ends
 
 -- ---- what one instruction copies
-
-is_store : (i : ChipInsn) → (i ≡ St) ⊎ (i ≢ St)
-is_store St = inl refl
-is_store i = inr (λ e. cc)
 
 -- an instruction that is no store changes no byte
 kept_by : (i : ChipInsn) (reads writes : List ℕ) (marks : MarkList) (m : Shared) → i ≢ St → (effect_of i reads writes marks m).1.image ≡ m.image

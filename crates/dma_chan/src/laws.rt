@@ -1,6 +1,7 @@
 //! Laws of transfers' programs, and of any. Each law is the postcondition of a function that does nothing.
 
-ghost use Rattle.dma_chan.specs.Layer.{StartsAt, AheadIs, LeftIs, StepIs, TurnReports, Survives, CostIs, CostOnBus, WordsAccepted};
+ghost use Rattle.dma_chan.specs.Layer.{StartsAt, AheadIs, LeftIs, StepIs, TurnReports, Survives, StepBesideOthers};
+ghost use Rattle.dma_chan.specs.Layer.{CostIs, CostOnBus, WordsAccepted};
 ghost use Rattle.dma_chan.specs.CallWrites.{CallWritesNoOther};
 ghost use Rattle.dma_chan.specs.Laws.{CompiledCopiesAlone};
 ghost use Rattle.dma_chan.specs.Aligned.{AddressesAlign};
@@ -10,7 +11,8 @@ ghost use Rattle.dma_chan.specs.Reads.{ReadsNoOther};
 ghost use Rattle.dma_chan.specs.Ready.{ReadyIs};
 ghost use Rattle.dma_chan.specs.Stepping.{WritesEach};
 
-/// What a channel does at each step of a transfer's program, in terms of the places of the transfer alone.
+/// What a channel does at each step of a transfer's program, in terms of the places of the transfer alone. The last
+/// clause is for memory that others write between the steps, also where the transfer reads.
 pub fn runs_in_step()
     ensures starts { StartsAt }
     ensures ahead { AheadIs }
@@ -18,6 +20,7 @@ pub fn runs_in_step()
     ensures step { StepIs }
     ensures reports { TurnReports }
     ensures survives { Survives }
+    ensures beside_others { StepBesideOthers }
 {}
 
 /// If all destinations of a transfer lie on made pages, each instruction of its program is ready: the pages that it

@@ -1,4 +1,4 @@
-use Rattle.std.proofs.Common.{◌≡◌, ◌∙◌, ◌∷◌, ◌++◌, [], ℕ, List, ap, append_assoc, get_or, sym, take}
+use Rattle.std.proofs.Common.{◌∙◌, ◌∷◌, ◌++◌, [], ℕ, List, ap, append_assoc, get_or, sym, take}
 use Rattle.std.proofs.lemmas.List.{take_more}
 use Rattle.dma_chan.proofs.compile.push.Goals as goal
 
