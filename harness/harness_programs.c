@@ -348,19 +348,23 @@ uint32_t expect_instruction(uint32_t channel)
     const struct program *it = machine.of_channel[channel];
     uint32_t at = look(CPC + 8 * channel) - it->addr, len;
     char text[TEXT];
-    uint8_t first;
+    uint8_t first, next = 0;
 
     if (at >= it->len)
         return EVENTS;
     first = it->bytes[at];
-    len = length_of_instruction(first) + (first == DMASEV); /* after a DMASEV the turn executes one more */
+    len = length_of_instruction(first);
+    if (first == DMASEV && at + len < it->len) { /* if it raises an interrupt, the turn executes one more */
+        next = it->bytes[at + len];
+        len += length_of_instruction(next);
+    }
     if (at + len > it->len)
         return EVENTS;
     if (memcmp(harness_ram(it->addr + at), it->bytes + at, len) != 0)
         fail("the running program of channel %lu at 0x%08lX was overwritten at offset %lu, %s: a chip reads the new "
              "bytes; %s", (unsigned long)channel, (unsigned long)it->addr, (unsigned long)at,
              text_of_instruction(it, at, text), why_running(it));
-    if (first == DMALD)
+    if (first == DMALD || next == DMALD)
         expect_room(channel);
     return first == DMASEV ? it->bytes[at + 1] >> 3 : (uint32_t)EVENTS;
 }

@@ -207,10 +207,21 @@ static void fail_started(void)
          is_refused ? "; it is non-secure, and the DMAGO is for a secure channel" : "");
 }
 
+/* Expects that a DMASEV signals an event. */
+static void expect_signal(uint32_t event)
+{
+    if (event >= machine.driver->chip.events)
+        fail("a DMASEV of event %lu, but the chip has %lu", (unsigned long)event,
+             (unsigned long)machine.driver->chip.events);
+    if (machine.first >> 24 & 7)
+        fail("a DMASEV that fails: DBGINST0 is 0x%08lX, and a DMASEV's event is in its bits 31:27, with 0 in bits 26:24",
+             (unsigned long)machine.first);
+}
+
 /* Executes the debug instruction: expects that the chip does. */
 static void execute(uint32_t value)
 {
-    uint32_t code = machine.first >> 16 & 0xFF, channel = machine.first >> 24;
+    uint32_t code = machine.first >> 16 & 0xFF, channel = machine.first >> 24, event = machine.first >> 27;
     bool is_go = code == 0xA0 || code == 0xA2, was_set;
 
     if (value & 3)
@@ -219,14 +230,16 @@ static void execute(uint32_t value)
         expect_go(channel);
     else if (code == 0x01)
         note_kill();
-    else if (code != DMASEV)
+    else if (code == DMASEV)
+        expect_signal(event);
+    else
         fail("DBGINST0 has instruction 0x%02lX: the device executes DMAGO, DMASEV and DMAKILL there",
              (unsigned long)code);
     machine.debug_busy = draw(2) * (1 + draw(6));
-    was_set = look(INTMIS) >> (machine.first >> 27) & 1;
+    was_set = look(INTMIS) >> event & 1;
     set_register(DBGCMD, value);
     if (code == DMASEV)
-        note_event(machine.first >> 27, NULL, was_set);
+        note_event(event, NULL, was_set);
     if (is_go && status_of(channel) == EXECUTING)
         program_starts(channel, machine.second);
     else if (is_go)

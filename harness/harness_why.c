@@ -254,9 +254,14 @@ const char *why_early(const struct program *it)
 
 const char *why_running(const struct program *it)
 {
-    const struct copy *copy = copy_of(it);
+    const struct copy *copy;
 
     why[0] = '\0';
+    if (it == NULL) {
+        say("no program was started on it before");
+        return why;
+    }
+    copy = copy_of(it);
     say("it was started at tick %lu for copy %ld, and ", (unsigned long)it->started, (long)(copy - machine.copies));
     if (copy == machine.stopping)
         say("that copy is being stopped");
