@@ -38,6 +38,8 @@ OBJECT_DECLARE_SIMPLE_TYPE(PL330State, PL330)
  * time, and then pause, so that a processor can take the big lock.
  */
 #define PL330_SLICE_NS 200000
+/* .. or until so many turns are taken: under qtest the clock stands still */
+#define PL330_MOST_TURNS 16384
 #define PL330_PAUSE_NS 50000
 
 /* The bits 3:0 of a thread's status register */
@@ -100,7 +102,11 @@ static uint8_t pl330_status(PL330State *s, int n)
     return pl330_register(s, n < 0 ? 0x000 : 0x100 + 8 * n) & 15;
 }
 
-/* Reports each thread that left the status `stopped` or came to `faulting`. */
+/*
+ * Reports each channel that was started, and each thread that came to
+ * `faulting`. A thread that is stopped may also come there at once, by a debug
+ * instruction that fails.
+ */
 static void pl330_report(PL330State *s)
 {
     for (int n = -1; n < (int)s->config.channels; n++) {
@@ -113,7 +119,7 @@ static void pl330_report(PL330State *s)
         s->status[1 + n] = now;
         pc = pl330_register(s, n < 0 ? 0x004 : 0x104 + 8 * n);
         ftr = pl330_register(s, n < 0 ? 0x038 : 0x040 + 4 * n);
-        if (before == PL330_STOPPED) {
+        if (before == PL330_STOPPED && now != PL330_FAULTING) {
             trace_dma330_start(n, pc);
         }
         if (now == PL330_FAULTING) {
@@ -298,7 +304,8 @@ static void pl330_slice(void *opaque)
         pl330_ended = qemu_clock_get_ns(QEMU_CLOCK_VIRTUAL);
         is_over = s->step_ns || icount_enabled()
                   ? turns >= s->config.channels
-                  : pl330_ended - pl330_began >= PL330_SLICE_NS;
+                  : pl330_ended - pl330_began >= PL330_SLICE_NS ||
+                    turns >= PL330_MOST_TURNS;
     } while (can_step && !is_over);
     if (!can_step) {
         s->next_channel = 0; /* (so that a replay needn't know it) */
