@@ -37,8 +37,9 @@ static int32_t submit_large(dma330_controller *dma, uint8_t channel, uint32_t sr
 /* ---- a model that keeps the guest's memory ---- */
 
 /* Copies within `ram`, the guest's memory from address 0 on, and returns how many bytes were copied: the first ones, all
- * but the residue. It writes what the transfer reads after the submit (DMA330_BUSY if another transfer uses it), and reads
- * the destination before it steps anything else. The next transfer is submitted when dma330_unfinished writes 0. */
+ * but the residue, or none if there is no memory to read them out. It writes what the transfer reads after the submit
+ * (DMA330_BUSY if another transfer uses it), and reads the destination before it steps anything else. The next transfer
+ * is submitted when dma330_unfinished writes 0. */
 static uint32_t copy_in_ram(dma330_controller *dma, uint8_t *ram, dma330_segment from, dma330_segment to)
 {
     dma330_conflict conflict;
@@ -53,7 +54,8 @@ static uint32_t copy_in_ram(dma330_controller *dma, uint8_t *ram, dma330_segment
             copied = report.last == DMA330_FINISHED ? from.len - report.residue : 0;
             break;
         }
-    dma330_read(dma, to.addr, ram + to.addr, copied, &conflict);
+    if (dma330_read(dma, to.addr, ram + to.addr, copied, &conflict) != DMA330_OK)
+        copied = 0; /* out of memory: the bytes are copied, but `ram` hasn't got them */
     if (copied < from.len)
         dma330_terminate(dma, 0, &count); /* out of memory, or a burst has failed */
     return copied;

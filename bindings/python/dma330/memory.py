@@ -64,7 +64,9 @@ class Region:
 
     `buffer` is anything that Python can write as one piece: a bytearray, an mmap, an array, a numpy array of numbers of
     any type, or a memoryview of one. As long as the region lives, Python keeps the buffer where it is: a bytearray
-    can't be resized, an mmap not closed. Its bytes are the caller's to read and write between two calls.
+    can't be resized, an mmap not closed. But `ctypes.resize`, and numpy's `resize` with `refcheck=False`, don't ask
+    whether a buffer is lent: never use them while the region lives. The bytes are the caller's to read and write between
+    two calls of the library.
 
     `bytes`, and a buffer with `read_only`, are ROM: loads and programs read it, and stores to it fail. Other memory
     that can't be written is refused; map a file with `mmap.ACCESS_COPY`.

@@ -73,6 +73,7 @@ impl<'a> Region<'a> {
     ///
     /// # Safety
     ///
+    /// - The pointer isn't null, also if `len` is 0.
     /// - While the region exists, the bytes are mapped, and can be read and, unless `read_only`, written.
     /// - During a call with the region, no other region of the call has one of them, and whoever else uses them allows
     ///   for changes at any time, as a guest's processors do, and volatile and atomic accesses. A slice doesn't.
