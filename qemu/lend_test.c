@@ -1,7 +1,8 @@
 /* Tests which regions dma330.c lends: a part of RAM that the guest sees at two addresses is lent at the lower one only,
  * or at the one where it can be written; the rest of both sections is lent, and each reference to an owner that was
- * taken is dropped. Tests also when a slice may begin, and how long one takes if step-ns isn't 0. tests/test_library
- * compiles it with stubs in place of QEMU's headers; the functions that it doesn't define are never called. */
+ * taken is dropped. Tests also when a slice may begin, how long one takes if step-ns isn't 0, and that it ends if the
+ * clock stands still. tests/test_library compiles it with stubs in place of QEMU's headers; the functions that it
+ * doesn't define are never called. */
 #include "dma330.c"
 #include <stdio.h>
 
@@ -87,8 +88,11 @@ void trace_dma330_write(uint32_t offset, uint32_t value)
 {
 }
 
+static int started; /* traces of starts */
+
 void trace_dma330_start(int thread, uint32_t pc)
 {
+    started++;
 }
 
 void trace_dma330_fault(int thread, uint32_t pc, uint32_t fault)
@@ -253,6 +257,34 @@ static void test_times(void)
     dma330_device_close(&s.device);
 }
 
+/* ---- a clock that stands still ---- */
+
+/* A slice must end, and the next one come, though the clock stands still meanwhile, as it does under qtest. And a
+ * manager that fails isn't traced as a start. */
+static void test_still_clock(void)
+{
+    static const uint8_t loop[] = {0x18, 0x2C, 1}; /* DMANOP, and the DMALPEND of a loop without an end */
+    static PL330State s = {.config = {8, 2, 0, 64, 16, 3}};
+
+    if (dma330_device_open(&s.device, &s.config) != DMA330_OK)
+        abort();
+    s.lent.count = 1;
+    s.lent.regions[0] = (dma330_region){.addr = PROGRAMS_AT, .bytes = ram, .len = sizeof ram};
+    memcpy(ram, loop, sizeof loop);
+    counts = armed = started = 0;
+    now += 1000000;
+    debug(&s, 0xA0, 0, PROGRAMS_AT);
+    armed = 0;
+    pl330_slice(&s);
+    debug(&s, 0x34, 2 << 3, 0); /* an event that the chip doesn't have */
+    if (armed == 0 || started != 1 || pl330_status(&s, -1) != PL330_FAULTING) {
+        printf("a clock that stands still: the timer is armed for %lld, and %d starts are traced\n", (long long)armed,
+               started);
+        failed = 1;
+    }
+    dma330_device_close(&s.device);
+}
+
 int main(void)
 {
     static MemoryRegion mem = {0}, rom = {1}, regs = {2};
@@ -289,6 +321,7 @@ int main(void)
     test("none", NULL, 0, NULL, 0);
     test_pauses();
     test_times();
+    test_still_clock();
     printf(failed ? "failed\n" : "passed\n");
     return failed;
 }
