@@ -229,14 +229,66 @@ static void seal(save *s)
     seal_bytes(s->bytes, s->len);
 }
 
+/* Returns a word of the good save. */
+static uint32_t good_word(size_t at)
+{
+    return good.bytes[at] | (uint32_t)good.bytes[at + 1] << 8 | (uint32_t)good.bytes[at + 2] << 16 |
+           (uint32_t)good.bytes[at + 3] << 24;
+}
+
+/* Puts another word into the bad save. */
+static void put_word(size_t at, uint32_t word)
+{
+    for (int n = 0; n < 4; n++)
+        bad.bytes[at + n] = (uint8_t)(word >> 8 * n);
+}
+
 /* A word of the save becomes another, and the checksum is right. */
 static int32_t forged_word(size_t at, uint32_t word)
 {
     bad = good;
-    for (int n = 0; n < 4; n++)
-        bad.bytes[at + n] = (uint8_t)(word >> 8 * n);
+    put_word(at, word);
     seal(&bad);
     return forged(&bad, (uint32_t)at);
+}
+
+/* Channel 0 has this status, FTR and CPC. */
+static int32_t forged_thread(uint32_t csr, uint32_t ftr, uint32_t cpc)
+{
+    bad = good;
+    put_word(HEAD, csr);
+    put_word(HEAD + 4, ftr);
+    put_word(HEAD + 12, cpc);
+    seal(&bad);
+    return forged(&bad, csr);
+}
+
+/* What a channel and the manager have goes together: CPC is the address of the next instruction, FTR and FTRD have a
+ * fault exactly if there can be one, and no program of a guest has a cost. Channel 0 executes. */
+static void refuses_forged_threads(void)
+{
+    enum { CHANNEL = HEAD + 20, HAS_COST = CHANNEL + 39, FTRD_AT = 16, UNDEF = 1, DBG = 1 << 30 };
+    uint32_t cpc = good_word(HEAD + 12), base = good_word(HEAD + 8);
+
+    check(good_word(HEAD) == 1 && good_word(HEAD + 4) == 0 && cpc > base, "channel 0 executes", cpc);
+    check(forged_thread(1, 0, cpc) == DMA330_OK, "its own words", 0);
+    check(forged_thread(1, 0, cpc + 1) == DMA330_BAD_SAVE, "CPC one too far", 0);
+    check(forged_thread(1, 0, cpc - 1) == DMA330_BAD_SAVE, "CPC one too low", 0);
+    check(forged_thread(1, 0, cpc - 2) == DMA330_BAD_SAVE, "CPC at a DMASEV that hasn't failed", 0);
+    check(forged_word(HEAD + 8, base + 4) == DMA330_BAD_SAVE, "another address of the program", 0);
+    check(forged_thread(1, 0xFFFFFFFF, cpc) == DMA330_BAD_SAVE, "faults while it executes", 0);
+    check(forged_thread(15, 0, cpc) == DMA330_BAD_SAVE, "faulting without a fault", 0);
+    check(forged_thread(15, UNDEF, cpc) == DMA330_OK, "faulting", 0);
+    check(forged_thread(15, 2, cpc - 2) == DMA330_OK, "faulting at a DMASEV", 0);
+    check(forged_thread(15, 2, cpc - 3) == DMA330_BAD_SAVE, "faulting elsewhere", 0);
+    check(forged_word(FTRD_AT, 0xFFFFFFFF) == DMA330_BAD_SAVE, "a fault that no manager has", 0);
+    check(forged_word(FTRD_AT, DBG | UNDEF) == DMA330_OK, "a fault from before a DMAKILL", 0);
+    check(forged_word(MANAGER_FAULTS, 1) == DMA330_BAD_SAVE, "a faulting manager without a fault", 0);
+    bad = good;
+    bad.bytes[HAS_COST] = 1;
+    seal_bytes(bad.bytes + CHANNEL, good_word(HEAD + 16));
+    seal(&bad);
+    check(forged(&bad, HAS_COST) == DMA330_BAD_SAVE, "a program with a cost", 0);
 }
 
 static void refuses_forged_words(void)
@@ -249,7 +301,6 @@ static void refuses_forged_words(void)
         check(forged_word(flags[n], 0x80000000) == DMA330_BAD_SAVE, "the last event", (uint32_t)n);
     }
     check(forged_word(HEAD, 0) == DMA330_BAD_SAVE, "a stopped channel with a program", 0);
-    check(forged_word(HEAD, 15) == DMA330_OK, "a faulting one", 0);
     check(forged_word(HEAD, 4 | 7 << 4) == DMA330_BAD_SAVE, "one that waits at another instruction", 0);
     check(forged_word(HEAD, 4 | 8 << 4) == DMA330_BAD_SAVE, "for an event that the device doesn't have", 0);
     check(forged_word(HEAD, 2) == DMA330_BAD_SAVE, "a status that no channel has", 0);
@@ -308,6 +359,7 @@ static void restores_anything(void)
     take(&m, &good);
     check(forged(&good, 0) == DMA330_OK, "a good one", 0);
     refuses_forged_words();
+    refuses_forged_threads();
     for (size_t at = 0; at < good.len; at++)
         for (size_t k = 0; k < sizeof flips; k++) {
             bad = good;

@@ -119,10 +119,17 @@ module _ {d e : DeviceValue} {regions left : List Region} {n most : ℕ} {turn :
   pub turn_taken : (first_in d regions n most).called.taken + (second_in d regions n most).called.taken ≡ turn.taken
   turn_taken = ap (λ (p : Setup × Turn). p.1.taken) x.is
 
+  -- what each of its calls, by a channel that runs, keeps, the turn keeps
+  pub turn_keeps_running : (P : DeviceValue → Type 0)
+      → ((made : Bool) (marks : MarkList) (most : ℕ) (s : Setup) → (made ≡ true → runs_at s.device n ≡ true) → P s.device
+      → P (called_if made marks n most s).left.device)
+      → P d → P e
+  turn_keeps_running P keeps h =
+      let first = first_in d regions n most in
+      subst P turn_device (keeps (follows first.left.device n first.called) (marks_in regions) 1 first.left (follows_runs first.left.device n first.called)
+      (keeps (begins d n most) (marks_in regions) most (setup_of d regions) (begins_runs d n most) h))
+
   -- what each of its calls keeps, the turn keeps
   pub turn_keeps : (P : DeviceValue → Type 0)
       → ((made : Bool) (marks : MarkList) (most : ℕ) (s : Setup) → P s.device → P (called_if made marks n most s).left.device) → P d → P e
-  turn_keeps P keeps h =
-      let first = first_in d regions n most in
-      subst P turn_device (keeps (follows first.left.device n first.called) (marks_in regions) 1 first.left
-      (keeps (begins d n most) (marks_in regions) most (setup_of d regions) h))
+  turn_keeps P keeps h = turn_keeps_running P (λ made marks m s _. keeps made marks m s) h

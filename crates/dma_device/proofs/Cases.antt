@@ -4,11 +4,15 @@ use Rattle.std.specs.{Prelude.◌==◌, Prelude.if◌then◌else◌, Prelude.not
 use Rattle.std.proofs.lemmas.Bool.{cond_both, eqb-false, eqb-true}
 use Rattle.dma_insn.specs.ControlWord.{field}
 use Rattle.dma_mem.specs.Regions.{Piece}
-use Rattle.dma_device.specs.Device.{DeviceValue, all_events, by_manager, by_thread, cleared_by, debugged, go, is_event, manager_failed, program_at, signalled, with_thread}
+use Rattle.dma_device.specs.Device.{DeviceValue, all_events, by_manager, by_thread, cleared_by, debugged, go, has_ftrd, is_event, manager_failed, program_at, signalled, with_thread}
 use Rattle.dma_device.specs.Device.{written}
 use Rattle.dma_device.specs.Thread.{dbg_instr, dmago_err, failed, is_faulting, is_stopped, killed, operand_invalid, started, undef_instr}
 use Rattle.dma_device.specs.{declared.device.Manager.Manager, declared.thread.Thread.Thread, Faults.TheChannel, Frame.IsDmago, Frame.Names}
 use Rattle.dma_device.specs.Offsets as offset
+
+-- a DMAKILL keeps FTRD
+pub killed_ftrd : (m : Manager) → has_ftrd m ≡ true → has_ftrd (record m { is_faulting = false }) ≡ true
+killed_ftrd m h = grind (arith)
 
 module _ (P : DeviceValue → Type 0) where
   pub branch : (b : Bool) (x y : DeviceValue) → (b ≡ true → P x) → (b ≡ false → P y) → P (if b then x else y)
@@ -56,11 +60,11 @@ module _ (P : DeviceValue → Type 0) where
   -- after the debug instruction
   pub record DebugCases (ram : List Piece) (d : DeviceValue) : Type 0 where
     pub same : P d
-    pub manager : field 0 1 d.dbginst0 ≢ 1 → (m : Manager) → P (record d { manager = m })
+    pub manager : field 0 1 d.dbginst0 ≢ 1 → (m : Manager) → (has_ftrd d.manager ≡ true → has_ftrd m ≡ true) → P (record d { manager = m })
     pub sev : (byte : ℕ) → is_event d byte ≡ true → P (signalled (byte / 8) d)
     pub kills : (t : Thread) → let n = field 8 3 d.dbginst0 in field 0 1 d.dbginst0 ≡ 1 → slice_get d.threads n ≡ Some t → P (with_thread n (killed t) d)
     pub fails : (why : ℕ) (t : Thread) → let n = field 8 3 d.dbginst0 in field 0 1 d.dbginst0 ≡ 1 → slice_get d.threads n ≡ Some t
-        → P (with_thread n (failed why t) d)
+        → P (with_thread n (failed (why + dbg_instr) t) d)
     pub starts : (n : ℕ) (t : Thread) (nonsecure : Bool) → Names d (TheChannel n) → is_stopped t ≡ true → slice_get d.threads n ≡ Some t
         → P (with_thread n (started nonsecure d.dbginst1 (program_at ram d.dbginst1) t) d)
 
@@ -82,25 +86,25 @@ module _ (P : DeviceValue → Type 0) where
         kill = λ _. x.kills t on is;
         faulting = λ _ _. x.same;
         sev = λ _ _ _ event. x.sev byte event;
-        no_event = λ _ _ _ _. x.fails _ t on is;
-        undefined = λ _ _ _. x.fails _ t on is;
+        no_event = λ _ _ _ _. x.fails operand_invalid t on is;
+        undefined = λ _ _ _. x.fails undef_instr t on is;
       })
 
       goes : field 0 1 d.dbginst0 ≢ 1 → IsDmago d byte → (nonsecure : Bool) (o : Option Thread) → slice_get d.threads byte ≡ o → P (go ram nonsecure byte o d)
-      goes off dmago nonsecure None is = x.manager off _
+      goes off dmago nonsecure None is = x.manager off _ (λ _. refl)
       goes off dmago nonsecure (Some t) is =
           go_cases ram nonsecure byte t d
-          (record { refused = λ _. x.manager off _; starts = λ _ stopped. x.starts byte t nonsecure (inr (off, dmago)) stopped is; busy = λ _ _. x.same })
+          (record { refused = λ _. x.manager off _ (λ _. refl); starts = λ _ stopped. x.starts byte t nonsecure (inr (off, dmago)) stopped is; busy = λ _ _. x.same })
 
       managed : field 0 1 d.dbginst0 ≢ 1 → P (by_manager ram opcode byte d)
       managed off = manager_cases ram opcode byte d (record {
-        kill = λ _. x.manager off _;
+        kill = λ _. x.manager off _ (killed_ftrd d.manager);
         faulting = λ _ _. x.same;
         sev = λ _ _ _ event. x.sev byte event;
-        no_event = λ _ _ _ _. x.manager off _;
+        no_event = λ _ _ _ _. x.manager off _ (λ _. refl);
         secure = λ _ _ _ is. goes off (inl (eqb-true opcode 0xA0 is), refl) false (slice_get d.threads byte) refl;
         nonsecure = λ _ _ _ _ is. goes off (inr (eqb-true opcode 0xA2 is), refl) true (slice_get d.threads byte) refl;
-        undefined = λ _ _ _ _ _. x.manager off _;
+        undefined = λ _ _ _ _ _. x.manager off _ (λ _. refl);
       })
 
   -- after a write of a register

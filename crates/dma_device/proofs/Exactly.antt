@@ -226,7 +226,7 @@ module _ (x : Drive) where
       let stands = subst (λ (t : Thread). Stands c (Unit {0}) (λ t. Unit {0}) image t) same g.holds in
       let events = (run.after k).config.events in
       let status : has_status events th (WaitingForEvent e) ≡ true = subst (λ (s : Status). has_status events th s ≡ true) is
-      (all_at (IsSound events) (run.after k).threads n th sound.threads found) in
+      (all_at (IsSound events) (run.after k).threads n th sound.threads found).status in
       let known = (and_parts (is_some th.channel.program) _ status).1 in
       let before = (and_parts (nat_lt e events) _ known).1 in
       let waits = (and_parts (waits_for e (ahead_of th.channel)) _ before).0 in

@@ -16,7 +16,7 @@ use Rattle.dma_device.specs.Explaining.{CallReads, GivesNone, HasWork, IsUnderwa
 use Rattle.dma_device.specs.Explaining.{UnderwayHasWork, WorkStays, channel_of, program_of}
 use Rattle.dma_device.specs.Turns.{Setup, TakesTurn, begins, called_if, follows, machine_in, runs_at, setup_of, steps_in}
 use Rattle.dma_device.specs.{CallSteps.StepsThread, CallSteps.first_in, CallSteps.last_in, CallSteps.marks_in, Device.DeviceValue}
-use Rattle.dma_device.specs.{Device.is_interrupt, Device.program_at, Device.signalled, Device.with_thread, Device.written, Thread.failed, Thread.killed}
+use Rattle.dma_device.specs.{Device.is_interrupt, Device.program_at, Device.signalled, Device.with_thread, Device.written, Thread.dbg_instr, Thread.failed, Thread.killed}
 use Rattle.dma_device.specs.{Thread.reset_thread, Thread.started, Writes.CallWrote, declared.device.turns.Turn.Turn, declared.thread.Thread.Thread}
 use Rattle.dma_device.proofs.Calls.{begins_runs, call_keeps, follows_runs, machine_left, takes, thread_left, turn_device, turn_keeps}
 use Rattle.dma_device.proofs.Cases.{branch, debug_cases, write_cases}
@@ -213,10 +213,10 @@ written_gives n ram at value d = write_cases (Gives n d) ram at value d (record 
   intclr = λ _. inl (inl refl);
   dbgcmd = λ _ _. debug_cases (Gives n d) ram d (record {
     same = inl (inl refl);
-    manager = λ _ _. inl (inl refl);
+    manager = λ _ _ _. inl (inl refl);
     sev = λ byte _. signalled_gives n (byte / 8) d;
     kills = λ t _ is. set_thread n (field 8 3 d.dbginst0) d t (killed t) is (inr refl);
-    fails = λ why t _ is. set_thread n (field 8 3 d.dbginst0) d t (failed why t) is (inl refl);
+    fails = λ why t _ is. set_thread n (field 8 3 d.dbginst0) d t (failed (why + dbg_instr) t) is (inl refl);
     starts = λ m t nonsecure _ _ is. start_thread n m d t nonsecure d.dbginst1 (program_at ram d.dbginst1) is;
   });
   dbginst0 = inl (inl refl);

@@ -14,7 +14,7 @@ use Rattle.dma_device.specs.Device.{reset_device, DeviceValue, by_manager, by_th
 use Rattle.dma_device.specs.Faults.{EndsFault, EndsAll, AbortIsFaulting, AbortsAreExact, Addresses, CallFails, DebugFails, Fails, FaultsAreExact, Kills}
 use Rattle.dma_device.specs.Faults.{LastFails, TheChannel, TheManager, TurnFails, Who, can_execute, channel_fails, debug_fails, faults_at, faults_if}
 use Rattle.dma_device.specs.Faults.{manager_fails}
-use Rattle.dma_device.specs.Thread.{answer, failed, is_faulting, is_stopped, killed, reset_thread, runs}
+use Rattle.dma_device.specs.Thread.{answer, dbg_instr, failed, is_faulting, is_stopped, killed, reset_thread, runs}
 use Rattle.dma_device.specs.Turns.{Outcome, Setup, TakesTurn, begins, called_if, follows, number_of, setup_of, with_flags}
 use Rattle.dma_device.specs.{declared.device.Manager.Manager, declared.config.Config.Config, declared.device.turns.Turn.Turn, declared.thread.Thread.Thread}
 use Rattle.dma_device.specs.{CallSteps.first_in, CallSteps.last_in, CallSteps.marks_in, CallSteps.second_in, CallSteps.signal_in, Interrupts.is_fine}
@@ -76,10 +76,10 @@ module _ (ram : List Piece) (d : DeviceValue) where
   passed_by who off_it =
       debug_cases (λ (e : DeviceValue). faults_at who e ≡ faults_at who d) ram d (record {
         same = refl;
-        manager = λ other m. with_manager who m other off_it;
+        manager = λ other m _. with_manager who m other off_it;
         sev = λ byte _. signal_same who (byte / 8) d;
         kills = λ t is _. elsewhere who d (field 8 3 d.dbginst0) (killed t) (λ same. off_it (subst (Addresses d) (sym same) (is, refl)));
-        fails = λ why t is _. elsewhere who d (field 8 3 d.dbginst0) (failed why t) (λ same. off_it (subst (Addresses d) (sym same) (is, refl)));
+        fails = λ why t is _. elsewhere who d (field 8 3 d.dbginst0) (failed (why + dbg_instr) t) (λ same. off_it (subst (Addresses d) (sym same) (is, refl)));
         starts = λ n t nonsecure _ stopped found. start_same who d n t _ found stopped refl;
       })
     where

@@ -56,7 +56,7 @@ module _ (ram : List Piece) (at value : ℕ) (d : DeviceValue) where
   debug_keeps : at ≡ offset.dbgcmd → value % 4 ≡ 0 → KeepsThreads at value d (debugged ram d)
   debug_keeps debug command = debug_cases (KeepsThreads at value d) ram d (record {
     same = none_changes at value d d refl refl refl;
-    manager = λ off m.
+    manager = λ off m _.
         changes_one TheManager at value d _ (record { debug = debug; command = command; names = off }) (λ who. same_channel who d _ refl) refl refl;
     sev = λ byte _.
         branch (KeepsThreads at value d) (is_interrupt d (byte / 8)) _ _ (λ _. none_changes at value d _ refl refl refl)

@@ -5,7 +5,7 @@ use Rattle.std.proofs.lemmas.List.{drop_at, length-append, drop-drop, drop_all, 
 use Rattle.std.proofs.{Math.Seq.drop-cons, Math.Seq.take-suc, lemmas.List.Concat.flat_map-append, lemmas.Nat.from_le_bytes-to_le_bytes_4}
 use Rattle.std.specs.{Int.w32, Int.to_le_bytes, Int.from_le_bytes, List.All, List.flat_map}
 use Rattle.dma_chan.specs.Saved.{checksum, sealed, saved}
-use Rattle.dma_device.specs.Snapshot.{HasKnownEvents, IsDeviceValue, IsThreadValue, device_parts, head_bytes, head_of, identity, saved_device}
+use Rattle.dma_device.specs.Snapshot.{IsSoundHead, IsDeviceValue, IsThreadValue, device_parts, head_bytes, head_of, identity, saved_device}
 use Rattle.dma_device.specs.Snapshot.{saved_thread, thread_bytes}
 use Rattle.dma_device.specs.{declared.config.Config.Config, declared.save.head.Head.Head, declared.thread.Thread.Thread, Device.DeviceValue, Device.csr}
 use Rattle.dma_device.specs.{Thread.IsOn, Thread.has_status, Thread.status_bits, Config.is_valid, inner.Saves.HasHeadRanges, declared.thread.Status.Status}
@@ -70,7 +70,7 @@ thread_written : (events : ℕ) (t : Thread) (rest : List ℕ) → events ≤ 32
     → HasThread t (thread_bytes t (length (saved t.channel)) ++ rest)
 unfolding thread_bytes
 thread_written events t rest few v short =
-    let parts = csr_parts (status_bits t.status) t.nonsecure (status_few events t t.status few v.sound) in
+    let parts = csr_parts (status_bits t.status) t.nonsecure (status_few events t t.status few v.sound.status) in
     let back = from_le_bytes-to_le_bytes_4 (csr t) parts.1.1 in
     record {
       status = ap (λ (n : ℕ). n % 512) back ∙ parts.0;
@@ -158,11 +158,11 @@ device_ranges d v =
       dbginst1 = v.dbginst1;
     }
 
-pub known_of : (d : DeviceValue) → IsDeviceValue d → HasKnownEvents (head_of d)
-known_of d v = record { events = v.known.events; interrupts = v.known.interrupts; inten = v.known.inten }
+pub known_of : (d : DeviceValue) → IsDeviceValue d → IsSoundHead (head_of d)
+known_of d v = record { events = v.known.events; interrupts = v.known.interrupts; inten = v.known.inten; manager = v.known.manager }
 
 -- What every device satisfies, in parts.
-pub device_value_is : (d : DeviceValue) → is_valid d.config ≡ true → HasKnownEvents (head_of d) → HasHeadRanges (head_of d)
+pub device_value_is : (d : DeviceValue) → is_valid d.config ≡ true → IsSoundHead (head_of d) → HasHeadRanges (head_of d)
     → length d.threads ≡ d.config.channels → All (IsThreadValue d.config.events) d.threads → All (IsOn d.config.bus) d.threads → IsDeviceValue d
 device_value_is d valid known r count values on = grind arith
 

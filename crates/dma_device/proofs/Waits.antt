@@ -63,7 +63,7 @@ waits_by events flags t s h1 h2 h3 = absurd (true≢false h3)
 
 -- a thread that runs and can't step waits
 pub idle_waits : (events flags : ℕ) (t : Thread) → IsSound events t → runs t ≡ true → can_step flags t ≡ false → Waits events flags t
-idle_waits events flags t sound on idle = waits_by events flags t t.status refl sound (sym (ap (λ (b : Bool). b && is_signalled flags t.status) on) ∙ idle)
+idle_waits events flags t sound on idle = waits_by events flags t t.status refl sound.status (sym (ap (λ (b : Bool). b && is_signalled flags t.status) on) ∙ idle)
 
 -- ---- its steps
 

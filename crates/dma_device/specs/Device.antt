@@ -149,6 +149,14 @@ read_at d at =
 abbrev pub manager_failed : ℕ → DeviceValue → DeviceValue
 manager_failed why d = record d { manager = record { is_faulting = true; fault = why + dbg_instr } }
 
+-- Whether the manager can have this FTRD: the fault of a debug instruction, or 0 if the manager isn't faulting. If it
+-- isn't faulting, it may have failed before a DMAKILL, and keeps the fault.
+abbrev pub has_ftrd : Manager → Bool
+has_ftrd m =
+    m.fault == 0 && not m.is_faulting
+    || (m.fault == undef_instr + dbg_instr
+    || (m.fault == operand_invalid + dbg_instr || m.fault == dmago_err + dbg_instr))
+
 -- the device with a thread replaced
 abbrev pub with_thread : ℕ → Thread → DeviceValue → DeviceValue
 with_thread n t d = record d { threads = slice_set d.threads n t }

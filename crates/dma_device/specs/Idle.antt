@@ -6,15 +6,14 @@ use Rattle.dma_insn.specs.{ControlWord.flag, declared.chip.ChipInsn.TheVariants.
 use Rattle.dma_chan.specs.{Channel.ahead_of, Channel.last_count, Written.range_at}
 use Rattle.dma_device.specs.Accesses.{Access, Answer, AreAlike, Does, Happen, Turned, Turns}
 use Rattle.dma_device.specs.{declared.config.Config.Config, declared.device.turns.Turn.Turn, Config.is_valid, Device.DeviceValue, Device.reset_device}
-use Rattle.dma_device.specs.{Device.with_thread, Events.IsVisible, Snapshot.HasKnownEvents, Snapshot.IsDeviceValue, Snapshot.head_of, Thread.IsSound}
+use Rattle.dma_device.specs.{Device.with_thread, Events.IsVisible, Snapshot.IsSoundHead, Snapshot.IsDeviceValue, Snapshot.head_of, Thread.IsSound}
 use Rattle.dma_device.specs.{Thread.can_step, Thread.runs, Turns.TakesTurn, Turns.begins, Turns.visible_events}
 use Rattle.dma_device.specs.{declared.thread.Status.TheVariants.WaitingForEvent, declared.thread.Thread.Thread}
 
--- A device has at most 32 events, those that are set are among them, and each thread has a status that goes with its
--- program.
+-- A device has at most 32 events, those that are set are among them, and each thread is sound.
 pub record IsSoundDevice (d : DeviceValue) : Type 0 where
   pub few : d.config.events ≤ 32
-  pub known : HasKnownEvents (head_of d)
+  pub known : IsSoundHead (head_of d)
   pub threads : All (IsSound d.config.events) d.threads
 
 -- A device is sound after a reset, if it has a save, and after each access to a sound device.

@@ -4,7 +4,7 @@ use Rattle.std.specs.{Int.w16, Int.w32, Int.to_le_bytes, List.All, List.flat_map
 use Rattle.dma_insn.specs.ControlWord.{flag}
 use Rattle.dma_chan.specs.{Saved.AreBytes, Saved.IsChannelValue, Saved.saved, Saved.sealed, Bus.bus_code}
 use Rattle.dma_device.specs.{declared.config.Config.Config, declared.save.head.Head.Head, declared.thread.Thread.Thread, Config.is_valid, Config.revision_code}
-use Rattle.dma_device.specs.{Device.DeviceValue, Device.csr, Thread.IsOn, Thread.IsSound}
+use Rattle.dma_device.specs.{Device.DeviceValue, Device.csr, Device.has_ftrd, Thread.IsOn, Thread.IsSound}
 
 -- ---- what every device satisfies
 
@@ -16,11 +16,13 @@ pub record IsThreadValue (events : ℕ) (t : Thread) : Type 0 where
   pub pc : t.pc < 2 ^ 32
   pub channel : IsChannelValue t.channel
 
--- The events and the interrupts that are set, and those that INTEN makes interrupts, are among those of the device.
-pub record HasKnownEvents (h : Head) : Type 0 where
+-- The events and the interrupts that are set, and those that INTEN makes interrupts, are among those of the device, and
+-- FTRD goes with the manager.
+pub record IsSoundHead (h : Head) : Type 0 where
   pub events : h.events < 2 ^ h.config.events
   pub interrupts : h.interrupts < 2 ^ h.config.events
   pub inten : h.inten < 2 ^ h.config.events
+  pub manager : has_ftrd h.manager ≡ true
 
 -- the values in the head of a device's save
 abbrev pub head_of : DeviceValue → Head
@@ -34,11 +36,11 @@ head_of d = record {
   dbginst1 = d.dbginst1;
 }
 
--- What every device satisfies: its configuration is valid, its events are known, its other registers have 32 bits, and
+-- What every device satisfies: its configuration is valid, its head is sound, its other registers have 32 bits, and
 -- it has a thread for each channel, on the bus of its configuration (a save has no bus).
 pub record IsDeviceValue (d : DeviceValue) : Type 0 where
   pub config : is_valid d.config ≡ true
-  pub known : HasKnownEvents (head_of d)
+  pub known : IsSoundHead (head_of d)
   pub dbginst0 : d.dbginst0 < 2 ^ 32
   pub dbginst1 : d.dbginst1 < 2 ^ 32
   pub fault : d.manager.fault < 2 ^ 32

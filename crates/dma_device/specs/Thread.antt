@@ -1,10 +1,10 @@
 -- A channel thread: its status and its fault, and what a call of its channel makes of them.
-use Rattle.std.specs.Prelude.{◌≡◌, ℕ, ◌+◌, ◌-◌, ◌*◌, ◌%◌, ◌^◌, Bool, true, false, not, ◌&&◌, ◌==◌, nat_lt, List, Option, Some, None, Result, Ok, is_some}
+use Rattle.std.specs.Prelude.{◌≡◌, ℕ, ◌+◌, ◌-◌, ◌*◌, ◌%◌, ◌^◌, Bool, true, false, not, ◌&&◌, ◌||◌, ◌==◌, nat_lt, List, Option, Some, None, Result, Ok, is_some}
 use Rattle.std.specs.Prelude.{if◌then◌else◌}
 use Rattle.std.specs.Int.{bit_at}
 use Rattle.dma_insn.specs.declared.chip.ChipInsn.TheVariants.{St, StoreZeros, Wfe}
 use Rattle.dma_insn.specs.{declared.chip.ChipInsn.ChipInsn}
-use Rattle.dma_chan.specs.Channel.{ChannelValue, ahead_of, last_count, loaded_with, unloaded_on}
+use Rattle.dma_chan.specs.Channel.{ChannelValue, ahead_of, cost_of_program, last_count, loaded_with, unloaded_on}
 use Rattle.dma_chan.specs.declared.turn.ChanTurn.TheVariants.{Moved, Waiting, Ended, Fault}
 use Rattle.dma_chan.specs.{declared.bus.BusWidth.BusWidth, declared.bus.Bus.TheVariants.Chip, Bus.fits, Exec.fault_bit, declared.turn.ChanTurn.ChanTurn}
 use Rattle.dma_chan.specs.{declared.turn.FaultKind.FaultKind}
@@ -84,9 +84,27 @@ has_status events t Executing = is_some t.channel.program
 has_status events t (WaitingForEvent e) = is_some t.channel.program && (nat_lt e events && is_before_wait e t)
 has_status events t Faulting = true
 
--- A thread is sound: it has a status that goes with its program.
-abbrev pub IsSound : ℕ → Thread → Type 0
-IsSound events t = has_status events t t.status ≡ true
+-- Whether a thread can have this CPC: the address of its channel's next instruction. If FTR has a fault, it may be two
+-- bytes before that, the address of a DMASEV that has failed (`moved`).
+abbrev pub has_place : Thread → Bool
+has_place t =
+    let next = (t.base + t.channel.registers.pc) % 2 ^ 32 in
+    t.pc % 2 ^ 32 == next || ((t.pc + 2) % 2 ^ 32 == next && not (t.fault == 0))
+
+-- Whether a thread with this status can have this FTR: a DMAGO clears it, and a failure sets it. A thread that is
+-- stopped may have failed before a DMAKILL, and keeps the fault.
+abbrev pub has_fault : Status → ℕ → Bool
+has_fault Stopped fault = true
+has_fault Faulting fault = not (fault == 0)
+has_fault s fault = fault == 0
+
+-- A thread is sound: its status goes with its program, CPC and FTR go with the rest, and its program has no known cost,
+-- since a driver wrote it.
+pub record IsSound (events : ℕ) (t : Thread) : Type 0 where
+  pub status : has_status events t t.status ≡ true
+  pub place : has_place t ≡ true
+  pub fault : has_fault t.status t.fault ≡ true
+  pub cost : cost_of_program t.channel.program ≡ None
 
 -- whether a status is no wait, or one for an event whose flag is set
 abbrev pub is_signalled : ℕ → Status → Bool

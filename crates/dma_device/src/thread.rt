@@ -5,7 +5,7 @@ ghost use Rattle.dma_mem.specs.Regions.{pieces_of};
 ghost use Rattle.dma_chan.specs.Channel.{ahead_of};
 ghost use Rattle.dma_device.specs.Device.{csr, program_at};
 ghost use Rattle.dma_device.specs.declared.thread.Status.{Status};
-ghost use Rattle.dma_device.specs.Thread.{IsSound, answer, answered, can_step, is_at_next, is_before_wait, is_faulting, is_signalled, is_stopped, is_store, killed, failed, moved, reset_thread, runs, shown, started, status_bits, waited, waits_for};
+ghost use Rattle.dma_device.specs.Thread.{IsSound, answer, answered, can_step, is_at_next, is_before_wait, is_faulting, is_signalled, is_stopped, is_store, killed, failed, has_fault, has_place, has_status, moved, reset_thread, runs, shown, started, status_bits, waited, waits_for};
 
 use crate::config::BusWidth;
 use dma_chan::bus::Bus;
@@ -168,9 +168,19 @@ impl Thread {
         self.status.bits() + nonsecure
     }
 
-    // Returns whether the thread's status goes with its program, in a device with this number of events.
+    // Returns whether a device with this number of events can have the thread.
     pub(crate) fn is_sound(&self, events: u8) -> bool
         ensures { IsTrue result ↔ IsSound events self.now }
+    {
+        self.has_status(events)
+            && self.has_place()
+            && self.has_fault()
+            && self.channel.left().is_none()
+    }
+
+    // Returns whether the thread's status goes with its program, in a device with this number of events.
+    fn has_status(&self, events: u8) -> bool
+        ensures { result ≡ has_status events self.now self.now.status }
     {
         let is_loaded = self.channel.is_loaded();
         match self.status {
@@ -180,6 +190,25 @@ impl Thread {
                 is_loaded && event.number() < events && self.is_before_wait(event)
             }
             Status::Faulting => true,
+        }
+    }
+
+    // Returns whether CPC is the address of the channel's next instruction, or of a DMASEV that has failed.
+    fn has_place(&self) -> bool
+        ensures { result ≡ has_place self.now }
+    {
+        let next = self.base.wrapping_add(self.channel.pc());
+        self.pc == next || self.pc.wrapping_add(2) == next && self.fault != 0
+    }
+
+    // Returns whether FTR goes with the thread's status.
+    fn has_fault(&self) -> bool
+        ensures { result ≡ has_fault self.now.status self.now.fault }
+    {
+        match self.status {
+            Status::Stopped => true,
+            Status::Executing | Status::WaitingForEvent(_) => self.fault == 0,
+            Status::Faulting => self.fault != 0,
         }
     }
 

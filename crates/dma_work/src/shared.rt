@@ -11,10 +11,10 @@ use crate::gate::Gate;
 use crate::job::Job;
 use crate::parts::Parts;
 use crate::worker::{Locked, Tally, Totals, work_at};
-use core::mem::replace;
 use dma_engine::{Engine, NoMemory};
 use std::alloc::Global;
 use std::marker::PhantomData;
+use std::mem::replace;
 use std::sync::{Mutex, Wait};
 use std::thread::{self, Promise, PromisedHandle, Scope, Threads};
 

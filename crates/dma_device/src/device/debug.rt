@@ -1,9 +1,9 @@
 //! Writes of the registers, and the debug instruction.
 
-ghost use Rattle.std.specs.Prelude.{◌≡◌, ◌^◌, ◌<◌, Some, length, slice_get, if◌then◌else◌};
+ghost use Rattle.std.specs.Prelude.{◌≡◌, ◌^◌, ◌<◌, Some, true, length, slice_get, if◌then◌else◌};
 ghost use Rattle.dma_mem.specs.Regions.{pieces_of};
 ghost use Rattle.dma_insn.specs.ControlWord.{field};
-ghost use Rattle.dma_device.specs.Device.{by_manager, by_thread, cleared_by, debugged, go, gone, is_event, is_interrupt, manager_failed, program_at, signalled, with_thread, written};
+ghost use Rattle.dma_device.specs.Device.{by_manager, by_thread, cleared_by, debugged, go, gone, has_ftrd, is_event, is_interrupt, manager_failed, program_at, signalled, with_thread, written};
 ghost use Rattle.dma_device.specs.Thread.{failed, killed, started};
 ghost use Rattle.dma_device.specs.declared.thread.Thread.{Thread};
 
@@ -90,7 +90,8 @@ impl Device {
 
     // Makes the manager faulting.
     fn fail_manager(&mut self, why: u32)
-        requires { why < 2 ^ 30 }
+        requires few { why < 2 ^ 30 }
+        requires fault { has_ftrd (manager_failed why self.old).manager ≡ true }
         ensures { self.new ≡ manager_failed why self.old }
     {
         self.manager.is_faulting = true;

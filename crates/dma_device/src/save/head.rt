@@ -3,13 +3,15 @@
 ghost use Rattle.std.specs.Prelude.{◌≡◌, ◌↔◌, ◌^◌, ◌<◌, ◌≤◌, ◌++◌, IsTrue, IfSome, List, ℕ, Some, drop, length, take};
 ghost use Rattle.arrayvec.specs.ArrayVec.{array_vec_len};
 ghost use Rattle.dma_insn.specs.ControlWord.{flag};
-ghost use Rattle.dma_device.specs.Snapshot.{HasKnownEvents, IsOfOther, head_bytes, identity};
+ghost use Rattle.dma_device.specs.Device.{has_ftrd};
+ghost use Rattle.dma_device.specs.Snapshot.{IsOfOther, IsSoundHead, head_bytes, identity};
 ghost use Rattle.dma_device.specs.declared.save.head.Head.{Head};
 ghost use Rattle.dma_device.specs.inner.Saves.{HasHeadRanges};
 
 use crate::config::Config;
 use crate::device::Manager;
 use crate::save::{HEAD_LEN, HeadBytes, push, u32_at};
+use crate::thread::{DBG_INSTR, DMAGO_ERR, OPERAND_INVALID, UNDEF_INSTR};
 use arrayvec::ArrayVec;
 
 // The bytes at the start of every save of a device.
@@ -122,14 +124,26 @@ impl Head {
         }
     }
 
-    // Returns whether the events and the interrupts that are set, and INTEN, are those that the device has.
-    fn has_known_events(&self) -> bool
+    // Returns whether a device of this configuration can have these events, interrupts, INTEN and FTRD.
+    fn is_sound(&self) -> bool
         requires { self.now.config.events ≤ 32 }
-        ensures { IsTrue result ↔ HasKnownEvents self.now }
+        ensures { IsTrue result ↔ IsSoundHead self.now }
     {
         is_known(self.events, self.config)
             && is_known(self.interrupts, self.config)
             && is_known(self.inten, self.config)
+            && self.has_ftrd()
+    }
+
+    // Returns whether FTRD goes with the manager.
+    fn has_ftrd(&self) -> bool
+        ensures { result ≡ has_ftrd self.now.manager }
+    {
+        let fault = self.manager.fault;
+        fault == 0 && !self.manager.is_faulting
+            || fault == DBG_INSTR + UNDEF_INSTR
+            || fault == DBG_INSTR + OPERAND_INVALID
+            || fault == DBG_INSTR + DMAGO_ERR
     }
 
     // Returns the head with which these bytes begin, if it is that of a device of this configuration. They begin with
@@ -139,17 +153,17 @@ impl Head {
         ensures long { IfSome result (λ h. 40 ≤ length bytes.now) }
         ensures found { IfSome result (λ h. take 40 bytes.now ≡ head_bytes h) }
         ensures config { IfSome result (λ h. h.config ≡ config) }
-        ensures known { IfSome result (λ h. HasKnownEvents h) }
+        ensures known { IfSome result (λ h. IsSoundHead h) }
         ensures ranges { IfSome result (λ h. HasHeadRanges h) }
         ensures only { (h : Head) (rest : List ℕ)
-            → HasHeadRanges h → HasKnownEvents h → h.config ≡ config
+            → HasHeadRanges h → IsSoundHead h → h.config ≡ config
             → bytes.now ≡ head_bytes h ++ rest → result ≡ Some h }
     {
         if bytes.len() < HEAD_LEN {
             return None;
         }
         let head = Head::read(config, bytes);
-        if !head.has_known_events() {
+        if !head.is_sound() {
             return None;
         }
         let again = head.bytes();

@@ -16,7 +16,7 @@ impl Engine {
     {
         match call {
             Call::Write { addr, bytes } => done_or_refused(self.write(*addr, bytes.as_slice())),
-            Call::Read { addr, len } => match self.read(*addr, *len) {
+            Call::Read { addr, len } => match self.read_kept(*addr, *len) {
                 Ok(bytes) => Reply::Bytes(bytes),
                 Err(fault) => Reply::Refused(fault),
             },

@@ -70,7 +70,19 @@ impl Engine {
     ///
     /// The error is the first that applies of `OutOfMemoryRange`, `Busy` if a running transfer writes an address of the
     /// range, and `NoMemory`.
-    pub fn read(&mut self, addr: u32, len: u32) -> Result<Bytes, EngineFault>
+    pub fn read(&mut self, addr: u32, len: u32) -> Result<Vec<u8>, EngineFault>
+        ensures answer { CallAnswers self.old.view (Call.Read addr len)
+            (reply_of (λ bytes. Reply.Bytes bytes.items) result) self.new.view }
+        ensures kept { OnErr result (KeepsRoom self.old self.new) }
+    {
+        let kept = self.bytes_read(addr, len)?;
+        let answer = Vec::from_slice(self.alloc, kept.as_slice())?;
+        self.add_read(addr, len, kept)?;
+        Ok(answer)
+    }
+
+    // Reads bytes like `read`, into the form that replies have.
+    pub(crate) fn read_kept(&mut self, addr: u32, len: u32) -> Result<Bytes, EngineFault>
         ensures answer { CallAnswers self.old.view (Call.Read addr len)
             (reply_of (λ bytes. Reply.Bytes bytes) result) self.new.view }
         ensures kept { OnErr result (KeepsRoom self.old self.new) }

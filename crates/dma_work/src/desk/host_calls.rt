@@ -7,7 +7,6 @@ ghost use Rattle.dma_work.specs.Desk.{DeskAnswers};
 
 use super::{Desk, DeskName};
 use dma_engine::{Call, EngineFault, Outcome, Reply, Status};
-use dma_mem::lists::Bytes;
 use dma_mem::marks::MarkKind;
 use dma_mem::segment::Segment;
 
@@ -20,9 +19,9 @@ impl<N: DeskName> Desk<N> {
     }
 
     /// Reads memory like [`Engine::read`].
-    pub fn read(&mut self, addr: u32, len: u32) -> Result<Bytes, EngineFault>
+    pub fn read(&mut self, addr: u32, len: u32) -> Result<Vec<u8>, EngineFault>
         ensures { DeskAnswers self.old (Call.Read addr len)
-            (reply_of (λ bytes. Reply.Bytes bytes) result) self.new }
+            (reply_of (λ bytes. Reply.Bytes bytes.items) result) self.new }
     {
         self.engine.read(addr, len)
     }

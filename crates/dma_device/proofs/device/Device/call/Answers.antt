@@ -1,14 +1,15 @@
-use Rattle.std.proofs.Common.{◌≡◌, ◌∙◌, ◌^◌, ◌<◌, Option, Some, ap, refl, rules, subst, sym, arith}
+use Rattle.std.proofs.Common.{◌≡◌, ◌∙◌, ◌^◌, ◌<◌, Option, Some, ap, refl, true, rules, subst, sym, arith}
 use Rattle.std.proofs.lemmas.Grind.{common_steps}
 use Rattle.std.specs.Prelude.{slice_get}
 use Rattle.dma_mem.specs.{Flags.flags_of, Regions.image_of, Regions.pieces_of}
 use Rattle.dma_mem.proofs.Steps.{taken_few}
 use Rattle.dma_chan.specs.{declared.bus.Bus.TheVariants.Chip, Bus.fits, Channel.ChannelValue, Stepping.Machine, Stepping.machine}
 use Rattle.dma_chan.proofs.BusKept.{steps_bus}
-use Rattle.dma_device.specs.{Device.DeviceValue, Device.with_thread, Thread.IsOn, Thread.IsSound, Thread.answered, inner.Fields.device_value}
-use Rattle.dma_device.specs.Turns.{called, outcome_of, setup_of, visible_events, with_flags}
+use Rattle.dma_device.specs.{Device.DeviceValue, Device.with_thread, Thread.IsOn, Thread.IsSound, Thread.answered, Thread.runs, inner.Fields.device_value}
+use Rattle.dma_device.specs.Turns.{called, outcome_of, runs_at, setup_of, visible_events, with_flags}
 use Rattle.dma_device.specs.{CallSteps.marks_in, declared.device.turns.Called.Called, declared.thread.Thread.Thread}
-use Rattle.dma_device.proofs.{Answered.answer_channel, Calls.stepped_is, Found.found_running, Sound.steps_fit, Sound.answered_sound, Sound.with_new}
+use Rattle.dma_device.proofs.{Answered.answer_channel, Calls.runs_found, Calls.stepped_is, Found.found_running, Sound.steps_fit, Sound.answered_sound, Sound.runs_clear}
+use Rattle.dma_device.proofs.Sound.{with_new}
 use Rattle.dma_device.proofs.device.Device.call.Goals as goal
 
 pub invariant_of-self : goal.invariant_of-self
@@ -25,10 +26,13 @@ invariant_of-self c =
       control = ap (λ (x : ChannelValue). fits (Chip d.config.bus) x.registers.ccr) after
           ∙ steps_fit (Chip d.config.bus) _ _ c.step_regions-taken.result.count on.width on.control;
     } in
+    let v = device_value d in
+    let found : slice_get v.threads c.args.n ≡ Some t = found_running c.args.self.now v c.args.n t c.self.view_is c.requires.runs c.index_mut-thread.ensures.value in
+    let on : runs t ≡ true = sym (runs_found v c.args.n t found) ∙ ap (λ (v : DeviceValue). runs_at v c.args.n) c.self.view_is ∙ c.requires.runs in
     with_new d c.args.n t new c.self.invariant c.index_mut-thread.ensures.value kept
-    (subst (IsSound d.config.events) (sym c.answer.ensures)
+    (λ sound. subst (IsSound d.config.events) (sym c.answer.ensures)
     (answered_sound _ _ _ _ c.step_regions-taken.result.count d.config.events c.step_regions-taken.result.last
-    (record t { channel = channel }) c.step_regions-taken.result.signal steps refl))
+    (record t { channel = channel }) c.step_regions-taken.result.signal steps refl (runs_clear d.config.events t sound on) sound.cost))
 
 pub returns-clause-few : goal.returns-clause-few
 returns-clause-few c = grind (arith, common_steps, taken_few)

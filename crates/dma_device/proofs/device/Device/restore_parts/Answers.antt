@@ -1,7 +1,7 @@
 use Rattle.std.proofs.Common.{◌≡◌, ◌∙◌, List, ap, arith, drop, length, refl, subst, sym, true≢false, true}
 use Rattle.std.proofs.lemmas.List.{take-append-drop, with_items_is}
 use Rattle.std.specs.{List.All, List.flat_map}
-use Rattle.dma_device.specs.Snapshot.{HasKnownEvents, IsDeviceValue, device_parts, head_of, saved_thread}
+use Rattle.dma_device.specs.Snapshot.{IsSoundHead, IsDeviceValue, device_parts, head_of, saved_thread}
 use Rattle.dma_device.specs.{Device.DeviceValue, Thread.IsOn, declared.config.Config.Config, declared.save.head.Head.Head}
 use Rattle.dma_device.specs.{declared.thread.Thread.Thread}
 use Rattle.dma_device.proofs.SavedDevices.{tail_is, device_ranges, device_value_is, from_head, known_of, threads_behind}
@@ -9,8 +9,8 @@ use Rattle.dma_device.proofs.{Sound.are_on, Sound.on_of, Sound.with_parts, devic
 use Rattle.dma_device.proofs.device.Device.restore_parts.Goals as goal
 
 -- a head's events are known to a device of its configuration
-known_on : (h : Head) (g : Config) → h.config ≡ g → HasKnownEvents h → HasKnownEvents (record h { config = g })
-known_on h g same known = subst (λ (f : Config). HasKnownEvents (record h { config = f })) same known
+known_on : (h : Head) (g : Config) → h.config ≡ g → IsSoundHead h → IsSoundHead (record h { config = g })
+known_on h g same known = subst (λ (f : Config). IsSoundHead (record h { config = f })) same known
 
 pub returns-in_default-clause-all : goal.returns-in_default-clause-all
 unfolding device_parts
@@ -55,7 +55,7 @@ invariant_of-self-2 c =
     let known = known_on c.in-Some.head d.config c.in-Some.ensures.config c.in-Some.ensures.known in
     with_parts d _ new c.self.invariant refl refl refl len (c.restore_threads.auto.threads ∙ ap length c.deref_mut.ensures.value)
     c.restore_threads.ensures.sound (are_on d.config.bus new c.restore_threads.ensures.on)
-    (record { events = known.events; interrupts = known.interrupts; inten = known.inten })
+    (record { events = known.events; interrupts = known.interrupts; inten = known.inten; manager = known.manager })
 
 pub returns-clause-ok : goal.returns-clause-ok
 unfolding device_parts

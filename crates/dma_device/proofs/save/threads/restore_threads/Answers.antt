@@ -59,6 +59,10 @@ returns-in_default-clause-all c ts count values on is =
     (tail_is c.loop-n.at c.args.bytes.now ∙ behind) in
     absurd (cc w.0)
 
+pub returns-in_default-clause-sound : goal.returns-in_default-clause-sound
+returns-in_default-clause-sound c =
+    All-set (IsSound c.args.config.events) c.loop-n.threads c.loop-n.n c.restore.new.self c.in_default.ensures.sound c.loop-n.invariant.sound
+
 pub returns-clause-values : goal.returns-clause-values
 returns-clause-values c = λ _ k d less. c.loop-n.invariant.values k d (omega arith)
 

@@ -8,7 +8,7 @@ use Rattle.dma_chan.specs.{declared.bus.Bus.Bus, declared.bus.Bus.TheVariants.Ch
 use Rattle.dma_device.specs.Snapshot.{IsThreadValue, saved_thread, thread_bytes}
 use Rattle.dma_device.specs.{Thread.IsOn, Thread.IsSound, declared.thread.Status.Status, declared.thread.Thread.Thread}
 use Rattle.dma_device.proofs.SavedDevices.{bit_back, tail_is, thread_found, thread_length}
-use Rattle.dma_device.proofs.{Sound.reset_is_on, thread.Thread.restore.Goals.After-is_possible}
+use Rattle.dma_device.proofs.{Sound.reset_is_on, Sound.reset_is_sound, thread.Thread.restore.Goals.After-is_possible}
 use Rattle.dma_device.proofs.thread.Thread.restore.Goals as goal
 
 -- a thread of what is read
@@ -126,7 +126,7 @@ returns-in_default-restore-clause-on c =
     subst (λ (h : ChannelValue). IsOn c.args.config.bus (record (c.args.self.now) { channel = h })) (sym c.in_default-restore.ensures.unchanged) c.requires.on
 
 pub returns-then-not-is_possible-clause-sound : goal.returns-then-not-is_possible-clause-sound
-returns-then-not-is_possible-clause-sound c = subst (IsSound c.args.config.events) (sym c.reset.ensures) refl
+returns-then-not-is_possible-clause-sound c = subst (IsSound c.args.config.events) (sym c.reset.ensures) (reset_is_sound c.args.config.events c.args.config.bus)
 
 pub returns-then-eq-clause-value : goal.returns-then-eq-clause-value
 returns-then-eq-clause-value c = record {
