@@ -44,4 +44,5 @@ pub mod Rows
 pub mod Readiness
 pub mod OneByte
 pub mod Boards
+pub mod PlainBoards
 pub mod TwoDevices

@@ -9,7 +9,7 @@ use Rattle.dma_device.specs.{Dmago.Go, Dmago.MayGo, Dmago.csr_status, Dmago.star
 use Rattle.dma_device.specs.{declared.thread.Thread.Thread}
 use Rattle.dma_device.proofs.{FlagNumber.flag_few, Found.set_found}
 use Rattle.dma_device.specs.Offsets as offset
-use Rattle.dma_device.specs.Device.{DeviceValue, by_manager, csr, go as executes_go, of_thread, read_at, program_at, with_thread}
+use Rattle.dma_device.specs.Device.{DeviceValue, by_manager, csr, go as executes_go, of_thread, read_at, program_at, with_thread, written}
 
 -- ---- CSR, FTR and CPC
 
@@ -68,25 +68,36 @@ by_opcode : (ram : List Piece) (nonsecure : Bool) (n : ℕ) (e : DeviceValue) �
 by_opcode ram true n e calm = rw calm refl
 by_opcode ram false n e calm = rw calm refl
 
+-- the thread after a write to DBGCMD, while the debug registers have a DMAGO
+pub command_starts : (go : Go) (value : ℕ) → value % 4 ≡ 0 → field 0 1 go.device.dbginst0 ≡ 0 → field 16 8 go.device.dbginst0 ≡ 0xA0 + 2 * flag go.nonsecure
+    → field 24 8 go.device.dbginst0 ≡ go.channel → go.device.dbginst1 ≡ go.addr → MayGo go
+    → slice_get (written go.ram offset.dbgcmd value go.device).threads go.channel ≡ Some
+    (started go.nonsecure go.addr (program_at go.ram go.addr) (get_or go.device.threads go.channel (reset_thread go.device.config.bus)))
+command_starts go value command by opcode byte at may =
+    let d = go.device in
+    let n = go.channel in
+    let ram = go.ram in
+    let nonsecure = go.nonsecure in
+    let th = get_or d.threads n (reset_thread d.config.bus) in
+    let is = slice_get-get_or d.threads n (reset_thread d.config.bus) may.there in
+    let stopped = reads_stopped d n th may.few is may.stopped in
+    let new = started nonsecure go.addr (program_at ram go.addr) th in
+    let all : written ram offset.dbgcmd value d ≡ with_thread n new d =
+    simp (command, opcode, byte, by) (by_opcode ram nonsecure n d (flag_clear d.manager.is_faulting may.manager) ∙ simp (is, may.allowed, stopped, at)) in
+    ap (λ (v : DeviceValue). slice_get v.threads n) all ∙ set_found d.threads n th new is
+
 -- the thread after a driver's writes of a DMAGO
 pub dmago_starts : (go : Go) → MayGo go
     → slice_get (started_by go).threads go.channel ≡ Some
     (started go.nonsecure go.addr (program_at go.ram go.addr) (get_or go.device.threads go.channel (reset_thread go.device.config.bus)))
 dmago_starts go may =
-    let d = go.device in
     let n = go.channel in
-    let ram = go.ram in
     let nonsecure = go.nonsecure in
-    let e = written_both nonsecure n go.addr d in
     let w = word nonsecure n in
-    let th = get_or d.threads n (reset_thread d.config.bus) in
-    let is = slice_get-get_or d.threads n (reset_thread d.config.bus) may.there in
-    let stopped = reads_stopped d n th may.few is may.stopped in
-    let new = started nonsecure go.addr (program_at ram go.addr) th in
     let one = flag_few nonsecure in
     let opcode : field 16 8 w ≡ 0xA0 + 2 * flag nonsecure = omega arith in
     let byte : field 24 8 w ≡ n = omega (arith, may.few) in
     let by : field 0 1 w ≡ 0 = omega arith in
-    let all : started_by go ≡ with_thread n new e =
-    simp (opcode, byte, by) (by_opcode ram nonsecure n e (flag_clear d.manager.is_faulting may.manager) ∙ simp (is, may.allowed, stopped)) in
-    ap (λ (v : DeviceValue). slice_get v.threads n) all ∙ set_found d.threads n th new is
+    let ready : Go = record go { device = written_both nonsecure n go.addr go.device } in
+    command_starts ready 0 refl by opcode byte refl
+    (record { there = may.there; few = may.few; stopped = may.stopped; manager = may.manager; allowed = may.allowed })

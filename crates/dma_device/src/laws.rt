@@ -1,7 +1,7 @@
 //! Laws of devices. Each law is the postcondition of a function that does nothing.
 
 ghost use Rattle.dma_device.specs.AnyRegisters.{AnyDmago, AnyDmagoRefused};
-ghost use Rattle.dma_device.specs.Board.{ABoardCopies, BoardRunsCopy, BoardSpares, BoardStaysIn};
+ghost use Rattle.dma_device.specs.Board.{ABoardCopies, BoardLeavesBytes, BoardLeavesThread, BoardRests, BoardRunsCopy, BoardSpares, BoardStaysIn};
 ghost use Rattle.dma_device.specs.Copies.{DmagoCopies, DmagoInterrupts, DmagoInterruptsEach, DmagoInterruptsExactly, DmagoNeverFails, DmagoSignalsExactly};
 ghost use Rattle.dma_device.specs.Dmago.{ImageHasBytes};
 ghost use Rattle.dma_device.specs.Events.{EventsAreExact, TakenWasSet, WaitsForUnset};
@@ -114,17 +114,26 @@ pub fn a_refused_dmago_fails()
 {}
 
 /// A board has several devices over one memory. From the DMAGO on, any events on all devices happen in any order:
-/// register accesses, turns of channels, bytes that the processor writes, resets and restores. If on its device nothing
-/// but the channel's own turns may change its thread (no reset, no restore of another thread, no debug instruction that
-/// names it), then each of its turns writes only destinations and zeros of the work that explains its program, and
-/// reads only the sources. If besides only they write addresses that the work uses, then the work is done from the
-/// memory at the DMAGO once the channel's CSR reads as stopped, and `a_dmago_copies`, `a_dmago_interrupts`,
-/// `a_dmago_is_underway`, `a_dmago_never_fails` and `a_dmago_finishes` are about the channel's turns. So several
-/// channels copy at once, if the work of none writes an address that the work of another uses.
+/// register accesses, turns of channels, bytes that the processor writes, resets and restores. The DMAGO may be any
+/// write to DBGCMD that executes it, while the debug registers have it in the bits that count. If nothing but the
+/// channel's own turns changes its thread, then each of its turns writes only destinations and zeros of the work that
+/// explains its program, and reads only the sources, whatever memory each event is lent. If besides nothing but these
+/// turns changes bytes that the work uses, and they are lent these bytes, then the work is done from the memory at the
+/// DMAGO once the channel's CSR reads as stopped, and `a_dmago_copies`, `a_dmago_interrupts`, `a_dmago_is_underway`,
+/// `a_dmago_never_fails` and `a_dmago_finishes` are about the channel's turns. What these suppose of lent memory, they
+/// suppose of the channel's turns only. All other events may be lent any part of the memory: the write to DBGCMD only
+/// the program. Between the channel's turns its thread and these bytes stay as they are.
+///
+/// An event leaves the thread as it is if it isn't a reset, a restore of another thread, or a debug instruction that
+/// names the thread. It leaves the bytes if it writes no address that the work uses. So several channels copy at once,
+/// if the work of none writes an address that the work of another uses.
 pub fn a_board_copies()
     ensures copies { ABoardCopies }
     ensures runs { BoardRunsCopy }
+    ensures rests { BoardRests }
     ensures stays { BoardStaysIn }
+    ensures leaves_thread { BoardLeavesThread }
+    ensures leaves_bytes { BoardLeavesBytes }
     ensures spares { BoardSpares }
 {}
 
