@@ -31,7 +31,7 @@
  * 6. While a call runs, nobody else writes what its pointers point to, or reads what it writes. There is one exception:
  *    a guest's running processors may read and write the bytes of regions. "Beside running processors" in
  *    docs/DEVICES.md says what they then see.
- * 7. 32 KiB of stack are free; the most that was measured is 28.
+ * 7. 64 KiB of stack are free; the most that was measured is 29.
  * 8. malloc, realloc and free are one allocator. It aligns each block to 16 bytes. A block whose size isn't a multiple
  *    of 16 may have less: the largest power of two that divides its size.
  *
@@ -464,7 +464,7 @@ enum dma330_code {
     DMA330_STEPS_SPENT = -29,         /* an instruction is due, and the step count is 2^64 - 1 */
     /* of saves */
     DMA330_BAD_SAVE = -30,            /* the bytes are no save of a channel, or of any device */
-    DMA330_OTHER_DEVICE = -31,        /* the save has another version, or is of a device of another configuration */
+    DMA330_OTHER_DEVICE = -31,        /* the bytes begin as a save of another version, or of another configuration */
     /* of assembly: a line, and of disassembly: an offset */
     DMA330_BAD_MNEMONIC = -32,        /* no instruction has this name */
     DMA330_BAD_OPERAND = -33,         /* an operand is missing, of a wrong form, or one too many */
@@ -706,8 +706,10 @@ int32_t dma330_steps(dma330_controller *controller, uint64_t *steps) DMA330_NO_N
  * each call for injected errors, and for each wait that passes, each signal and each finish. */
 int32_t dma330_history_entries(dma330_controller *controller, uint64_t *count) DMA330_NO_NULLS;
 
-/* Writes the number of bytes of writes and reads that the history keeps, in time proportional to its entries. Each
- * entry takes 64 bytes, and more if it has over 22 bytes or lists of several segments. */
+/* Writes the number of bytes of writes and reads that the history keeps, in time proportional to its entries. An entry
+ * has 64 bytes, and the list of entries has room for up to twice as many: so an entry takes 64 to 128 bytes of memory,
+ * and up to 192 while the list grows. A write or a read of over 22 bytes takes these bytes and 24 more. A submit takes
+ * 16 to 32 more for its result, and more again if it has lists of several segments. */
 int32_t dma330_history_bytes(dma330_controller *controller, uint64_t *count) DMA330_NO_NULLS;
 
 /* Writes the number of running transfers of all channels. */
@@ -883,8 +885,9 @@ int32_t dma330_device_write(dma330_device *device, uint32_t offset, uint32_t val
  * faulting, or that the device doesn't have, does nothing. The turn ends early in five cases:
  * - the program ends, waits or fails;
  * - it has executed a DMASEV, so that you can set the interrupt lines;
- * - it has executed 4294967295 instructions since its DMAGO, and so it fails by lockup_err; this failure isn't counted
- *   as a step, so the turn may report that it took 0 steps;
+ * - it has executed 4294967295 instructions since its DMAGO; the next turn then takes 0 steps and fails by lockup_err,
+ *   since this failure isn't counted as a step (if the last of these instructions is the DMASEV of an interrupt, this
+ *   turn fails already, where it would take one more step);
  * - its next store neither overlaps nor touches the range written so far, since a turn reports one range without gaps;
  * - its next store would make this range 2^32 bytes long, which `written.len` can't hold.
  *
@@ -968,9 +971,9 @@ int32_t dma330_device_can_step(dma330_device *device, uint32_t *can_step) DMA330
 int32_t dma330_device_save(dma330_device *device, uint8_t *out, size_t room, size_t *len) DMA330_NO_NULLS;
 
 /* Makes the device the one that was saved. Refuses bytes that are the save of no device of this configuration, among
- * them each save in which one byte is changed. Codes: OTHER_DEVICE, if the first 7 bytes are those of
- * dma330_device_save and the next 8 aren't this version with this configuration: the device stays as it was. BAD_SAVE,
- * if anything else is wrong: the device is then in its state after a reset.
+ * them each save in which one byte is changed. Codes: OTHER_DEVICE, if there are 15 bytes or more, the first 7 are
+ * those of dma330_device_save, and the next 8 aren't this version with this configuration: the device stays as it was.
+ * BAD_SAVE, if anything else is wrong, also if there are fewer bytes: the device is then in its state after a reset.
  *
  * The restore also tests what holds of each save that a device wrote. Events, interrupts and INTEN have bits only of
  * the device's events. A stopped channel has no program; one that executes or waits has one. CPC of one that waits is

@@ -5,7 +5,7 @@
 //     bus.out.bind(dma.regs);  dma.mem.bind(bus.in);  dma.irq[5].bind(line);
 //
 // - `regs` takes the guest's accesses of registers: aligned, of 4 bytes, below 4 KiB. Others get an error response. A
-//   debug access reads any bytes at once, and writes none. An access needs 32 KiB of the calling process's stack.
+//   debug access reads any bytes at once, and writes none. An access needs 64 KiB of the calling process's stack.
 // - `mem` asks targets for DMI pointers; nothing else goes over it. The channels copy in memory that grants DMI. They
 //   fail elsewhere, as they do at an address where there is nothing. The device asks in the ranges that lend() names.
 //   If none is named, it asks from address 0 on, and goes on after the range of each answer. Memory that is granted for

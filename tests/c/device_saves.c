@@ -63,7 +63,11 @@ static void check_strangers(const save *from)
 
     for (uint32_t n = 0; n < OTHERS; n++) {
         check(dma330_device_restore(&strangers[n], from->bytes, from->len) == DMA330_OTHER_DEVICE, "is refused", n);
+        check(dma330_device_restore(&strangers[n], from->bytes, 15) == DMA330_OTHER_DEVICE, "so are 15 bytes", n);
         check(dma330_device_read(&strangers[n], INTEN, &value) == DMA330_OK && value == 5, "and changes nothing", n);
+        check(dma330_device_restore(&strangers[n], from->bytes, 14) == DMA330_BAD_SAVE, "14 show no device", n);
+        check(dma330_device_read(&strangers[n], INTEN, &value) == DMA330_OK && value == 0, "and reset it", n);
+        dma330_device_write(&strangers[n], INTEN, 5, m.regions, REGIONS);
     }
 }
 
@@ -467,17 +471,12 @@ static void restores_this_layout(void)
     tear_down(&m);
 }
 
-/* A program that has executed all but one of 2^32 - 1 instructions executes that one, and then fails without a step. */
-static void ends_after_the_last_instruction(void)
+/* Starts the program at LOW, and makes it one that has executed all but one of 2^32 - 1 instructions. */
+static void start_before_the_last(void)
 {
     enum { EXECUTED = HEAD + 20 + 26, LEN = HEAD + 16 };
-    dma330_device_turn t = {{1, 1}, 2, 3, 4};
     uint32_t len = 0;
 
-    set_up(&m, plain(1, 1, false));
-    put(&m, LOW, DMANOP);
-    put(&m, LOW + 1, DMANOP);
-    put(&m, LOW + 2, DMAEND);
     start(&m, 0, LOW);
     take(&m, &bad);
     for (int n = 0; n < 4; n++) {
@@ -487,11 +486,38 @@ static void ends_after_the_last_instruction(void)
     seal_bytes(bad.bytes + HEAD + 20, len);
     seal(&bad);
     check(dma330_device_restore(&m.device, bad.bytes, bad.len) == DMA330_OK, "one instruction before the last", 0);
+}
+
+/* Such a program executes that instruction, and then fails without a step, in the next turn. */
+static void ends_after_the_last_instruction(void)
+{
+    dma330_device_turn t = {{1, 1}, 2, 3, 4};
+
+    set_up(&m, plain(1, 1, false));
+    put(&m, LOW, DMANOP);
+    put(&m, LOW + 1, DMANOP);
+    put(&m, LOW + 2, DMAEND);
+    start_before_the_last();
     dma330_device_step(&m.device, 0, 1000, m.regions, REGIONS, &t);
     check(t.taken == 1 && t.lines_changed == 0 && t.can_step == 1 && get(&m, CSR) % 16 == 1, "the last one", 0);
     dma330_device_step(&m.device, 0, 1000, m.regions, REGIONS, &t);
     check(t.taken == 0 && t.lines_changed == 1 && t.can_step == 0 && get(&m, CSR) % 16 == 15, "no step after it", 0);
     check(get(&m, FTR) == 1u << DMA330_FTR_LOCKUP_ERR, "lockup_err", get(&m, FTR));
+    tear_down(&m);
+}
+
+/* If the last instruction is the DMASEV of an interrupt, its turn fails, where it would take one step more. */
+static void fails_after_the_last_interrupt(void)
+{
+    dma330_device_turn t = {{1, 1}, 2, 3, 4};
+
+    set_up(&m, plain(1, 1, false));
+    put(&m, put_two(&m, LOW, DMASEV, 0), DMAEND);
+    set(&m, INTEN, 1);
+    start_before_the_last();
+    dma330_device_step(&m.device, 0, 1000, m.regions, REGIONS, &t);
+    check(t.taken == 1 && t.can_step == 0 && irqs(&m) == 1 && irq_abort(&m), "the last interrupt", 0);
+    check(get(&m, FTR) == 1u << DMA330_FTR_LOCKUP_ERR, "lockup_err right after it", get(&m, FTR));
     tear_down(&m);
 }
 
@@ -506,5 +532,6 @@ int main(void)
     needs_room();
     restores_this_layout();
     ends_after_the_last_instruction();
+    fails_after_the_last_interrupt();
     return end_checks();
 }

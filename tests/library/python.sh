@@ -1,12 +1,6 @@
 # The part of test_library that tests the module for Python (bindings/python/), over a shared library made of this
 # archive.
 
-# shared_library FILE: links the archive as a shared library, as install.sh does
-shared_library() {
-    $CC -shared -o "$1" -Wl,--whole-archive "$LIB" -Wl,--no-whole-archive -Wl,-z,defs \
-        -Wl,--version-script=release/install/dma330.map -Wl,-soname,libdma330.so.1
-}
-
 # is_for_python FILE: succeeds if a library is for the processor of python3
 is_for_python() {
     python3 -c '

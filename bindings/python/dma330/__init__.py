@@ -28,7 +28,7 @@ has more bits than the library's argument, or is negative, raises OverflowError.
 
 The library is proved; this module isn't, and a test compares its declarations with dma330.h. It keeps the duties at the
 head of dma330.h: one call at a time, memory that stays where it is, no two regions of the same bytes. Two are
-yours: each thread has 32 KiB of stack, and while a call runs, nobody else writes what it reads, or reads what it
+yours: each thread has 64 KiB of stack, and while a call runs, nobody else writes what it reads, or reads what it
 writes. Python's other threads run during a call.
 
 The library is the file that DMA330_SO names, else libdma330.so.1 beside the module (as in a wheel), in ../lib, ../../lib

@@ -33,14 +33,18 @@ class Opened:
     """It is open until `close`, the end of a `with` block, or until nothing refers to it.
 
     Threads may share it: each call waits until the one before it has returned. It belongs to the process that opened
-    it; in the child of a fork its calls raise RuntimeError. It can't be copied or pickled.
+    it; in the child of a fork its calls raise RuntimeError. It can't be copied or pickled, and it is opened once: a
+    second `__init__` raises RuntimeError.
     """
     _struct = ""
     _prefix = ""
 
+    # (Derived classes set their own members after this, so that a second `__init__` changes none of them.)
     def __init__(self, *words: Any) -> None:
+        raw = STRUCTS[self._struct]()
+        if vars(self).setdefault("_raw", raw) is not raw:
+            raise RuntimeError("it was opened already: open another one")
         self._lock = threading.RLock()
-        self._raw = STRUCTS[self._struct]()
         self._forks = _forks
         self._call("open", *words)
         self._end = weakref.finalize(self, _close, self._prefix, self._raw, self._lock, _forks)
@@ -102,8 +106,9 @@ class OverRegions(Opened):
     """It works in the caller's memory, which `regions` lends to each call."""
 
     def __init__(self, regions: Iterable[Region], *words: Any) -> None:
-        self._lent = Lent(regions)
+        lent = Lent(regions)
         super().__init__(*words)
+        self._lent = lent
 
     @property
     def regions(self) -> Tuple[Region, ...]:

@@ -25,8 +25,8 @@ class Channel(OverRegions):
     _struct, _prefix = "channel", "channel_"
 
     def __init__(self, regions: Iterable[Region] = ()) -> None:
-        self._flags = u32()
         super().__init__(regions)
+        self._flags = u32()
 
     def _about(self) -> str:
         return ", %d regions" % len(self.regions)

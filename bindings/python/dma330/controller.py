@@ -31,8 +31,9 @@ class Controller(Opened):
     _struct = "controller"
 
     def __init__(self, size: SupportsIndex, channels: SupportsIndex = 1) -> None:
-        self._size, self._channels = number(size, 32, "size"), number(channels, 8, "channels")
-        super().__init__(self._size, self._channels)
+        words = number(size, 32, "size"), number(channels, 8, "channels")
+        super().__init__(*words)
+        self._size, self._channels = words
 
     def _about(self) -> str:
         return ", %d bytes, %d channels" % (self._size, self._channels)

@@ -45,8 +45,8 @@ class Device(OverRegions):
         choices = {"channels": channels, "events": events, "nonsecure": nonsecure, "bus": bus, "lines": lines,
                    "revision": revision}
         config = STRUCTS["device_config"](**{name: number(it, 32, name) for name, it in choices.items()})
-        self._channels: int = config.channels
         super().__init__(regions, byref(config))
+        self._channels: int = config.channels
 
     def _about(self) -> str:
         return ", %d channels, %d regions" % (self._channels, len(self.regions))
@@ -162,7 +162,7 @@ class Device(OverRegions):
         return self._save(MAX_DEVICE_SAVE)
 
     def restore(self, save: Buffer) -> None:
-        """Makes the device the one that was saved. Raises OtherDevice; BadSave, after which the device is in its state
-        after a reset."""
+        """Makes the device the one that was saved. Raises OtherDevice if the first 15 bytes are of another version or
+        configuration, and then changes nothing; BadSave, after which the device is in its state after a reset."""
         save = bytes_of(save)
         self._call("restore", save, len(save))

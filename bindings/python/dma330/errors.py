@@ -149,7 +149,7 @@ class BadSave(Error, ValueError):
 
 
 class OtherDevice(Error, ValueError):
-    """The save has another version, or is of a device of another configuration."""
+    """The bytes begin as a save of another version, or of another configuration."""
 
 
 class BadMnemonic(Error, ValueError):

@@ -5,10 +5,10 @@ import ctypes
 import functools
 import itertools
 import operator
-import re
 from typing import TYPE_CHECKING, Any, Iterable, List, NoReturn, Optional, SupportsIndex, Tuple, Union
 
 from ._library import STRUCTS, u8
+from ._numbers import check_numbers
 from .values import MAX_SEGMENTS
 
 if TYPE_CHECKING:
@@ -63,39 +63,51 @@ class Region:
         region = Region(0x80000000, ram)
 
     `buffer` is anything that Python can write as one piece: a bytearray, an mmap, an array, a numpy array of numbers of
-    any type, or a memoryview of one. As long as the region lives, Python keeps the buffer where it is: a bytearray
-    can't be resized, an mmap not closed. But `ctypes.resize`, and numpy's `resize` with `refcheck=False`, don't ask
-    whether a buffer is lent: never use them while the region lives. The bytes are the caller's to read and write between
-    two calls of the library.
+    any type or of records of numbers, an array or a Structure of ctypes with numbers, or a memoryview of one. As long
+    as the region lives, or is lent, Python keeps the buffer where it is: a bytearray can't be resized, an mmap not
+    closed. But `ctypes.resize`, and numpy's `resize` with `refcheck=False`, don't ask whether a buffer is lent, and
+    neither does `os.truncate` of a mapped file: never use them while the region lives. The bytes are the caller's to
+    read and write between two calls of the library.
 
     `bytes`, and a buffer with `read_only`, are ROM: loads and programs read it, and stores to it fail. Other memory
     that can't be written is refused; map a file with `mmap.ACCESS_COPY`.
+
+    A copy over a reference to one of Python's objects, or over a pointer, would crash the interpreter. So TypeError is
+    raised for a numpy array whose type has objects, for an object of ctypes whose type has a `py_object`, a pointer
+    or a function, for what lies in the memory of one of these, and for any other buffer whose format isn't that of one
+    number. Two things don't show: what is at an address of which ctypes has made an object (`from_address`, `cast`),
+    and that an object of ctypes was made in a bytearray or another buffer with `from_buffer`. Lend no memory that has
+    references or pointers in one of these ways.
+
+    A region is made once: a second `__init__` raises RuntimeError.
     """
-    __slots__ = ("_addr", "_buffer", "_first", "_len", "_place", "_read_only")
+    __slots__ = ("_buffer", "_parts")
 
     def __init__(self, addr: SupportsIndex, buffer: Buffer, read_only: bool = False) -> None:
+        if hasattr(self, "_parts"):
+            raise RuntimeError("this Region has its memory: make another one")
         view = memoryview(buffer)
         if not view.c_contiguous:
             raise ValueError("memory to lend must be one piece: this is a view with gaps")
-        if "O" in re.sub(":[^:]*:", "", view.format):  # (without the names of fields)
-            raise TypeError("memory to lend must have numbers, and no references to Python's objects")
+        check_numbers(view)
         # (a class derived from bytes may have another length, or other bytes)
         is_bytes = type(buffer) is bytes
         if view.readonly and not is_bytes:
             raise TypeError("memory that can't be written must be bytes")
-        self._addr, self._buffer, self._len = number(addr, 32, "address"), buffer, view.nbytes
-        self._read_only = bool(read_only) or view.readonly
         if is_bytes:
-            self._first: Any = ctypes.c_char_p(buffer)
-            self._place: int = ctypes.cast(self._first, ctypes.c_void_p).value or 0
+            first: Any = ctypes.c_char_p(buffer)
+            place: int = ctypes.cast(first, ctypes.c_void_p).value or 0
         else:
-            self._first = u8.from_buffer(view) if self._len else u8()
-            self._place = ctypes.addressof(self._first)
+            first = u8.from_buffer(view) if view.nbytes else u8()
+            place = ctypes.addressof(first)
+        self._buffer = buffer
+        # The last of these holds the memory. One member has them all, so that who reads it has what belongs together.
+        self._parts = number(addr, 32, "address"), view.nbytes, place, bool(read_only) or view.readonly, first
 
     @property
     def addr(self) -> int:
         """The address of the first byte."""
-        return self._addr
+        return self._parts[0]
 
     @property
     def buffer(self) -> Buffer:
@@ -105,31 +117,47 @@ class Region:
     @property
     def read_only(self) -> bool:
         """Whether it is ROM."""
-        return self._read_only
+        return self._parts[3]
 
     @property
     def place(self) -> int:
         """Where the first byte is, for the library."""
-        return self._place
+        return self._parts[2]
 
     def __len__(self) -> int:
-        return self._len
+        return self._parts[1]
 
     def __repr__(self) -> str:
+        addr, size, _, read_only, _ = self._parts
         return "<dma330.Region at %#010x, %d bytes of %s%s>" % (
-            self._addr, self._len, type(self._buffer).__name__, ", read-only" if self._read_only else "")
+            addr, size, type(self._buffer).__name__, ", read-only" if read_only else "")
 
     def __reduce__(self) -> NoReturn:
         raise TypeError("a Region is lent memory, and isn't copied or pickled")
 
 
+_PARTS: Any = vars(Region)["_parts"]
+
+
+def _parts_of(region: Region) -> Any:
+    """Returns what a region was made of. A class derived from Region may answer something else when it is asked."""
+    if not issubclass(type(region), Region):
+        raise TypeError("memory is lent as a Region, and not as %s" % type(region).__name__)
+    return _PARTS.__get__(region)
+
+
 class Lent:
-    """Regions in the order of their addresses, as the library takes them."""
+    """Regions in the order of their addresses, as the library takes them. It holds their memory.
+
+    Of two regions at one address the shorter one is first, since it may be empty: then it ends where the other begins.
+    """
 
     def __init__(self, regions: Iterable[Region]) -> None:
-        self.regions = tuple(sorted(regions, key=lambda it: it.addr))
-        places = sorted((it.place, it.place + len(it)) for it in self.regions if len(it))
+        rows = sorted(((_parts_of(it), it) for it in regions), key=lambda row: row[0][:2])
+        self.regions = tuple(it for _, it in rows)
+        places = sorted((place, place + size) for (_, size, place, _, _), _ in rows if size)
         if any(end > begin for (_, end), (begin, _) in zip(places, places[1:])):
             raise ValueError("two regions share bytes: memory that is seen at two addresses is lent at one")
-        rows = [(it.addr, it.place, len(it), it.read_only) for it in self.regions]
-        self.words = (_array("region", len(rows))(*rows), len(rows))
+        words = [(addr, place, size, read_only) for (addr, size, place, read_only, _), _ in rows]
+        self.words = (_array("region", len(words))(*words), len(words))
+        self._held = [first for (_, _, _, _, first), _ in rows]

@@ -130,8 +130,39 @@ class Hostile(unittest.TestCase):
 
     def test_an_object_whose_open_failed(self):
         for call in (lambda: Controller(0), lambda: Controller(-1), lambda: Device(bus=1), lambda: Channel([None])):
-            self.assertRaises((ValueError, OverflowError, AttributeError), call)
+            self.assertRaises((ValueError, OverflowError, TypeError), call)
         gc.collect()
+
+    def test_what_is_open_is_not_opened_again(self):
+        """A second `__init__` changes nothing: what is open stays as it was, with its memory."""
+        ram = bytearray(b"\7" + bytes(15))
+        channel = Channel([Region(0, ram)])
+        channel.flags = 5
+        channel.load_fill(0, (1, 15))
+        device, controller = Device(channels=3), Controller(64, 2)
+        them = ((channel, {"regions": [Region(0, bytearray(9))]}), (device, {"channels": 8}),
+                (controller, {"size": 1 << 20, "channels": 1}))
+        for it, words in them:
+            kept, raw, end = repr(it), it._raw, it._end
+            with self.subTest(kept):
+                self.assertRaises(RuntimeError, it.__init__, **words)
+                self.assertTrue(it.is_open and it._raw is raw and it._end is end)
+                self.assertEqual(repr(it), kept)
+        self.assertEqual((channel.flags, channel.run().last, ram), (5, dma330.LastStep.ENDED, b"\7" * 16))
+        self.assertRaises(dma330.NoChannel, device.go, 3, 0)
+        self.assertRaises(dma330.OutOfMemoryRange, controller.read, 64, 1)
+        for it, words in them:
+            it.close()
+            self.assertRaises(RuntimeError, it.__init__, **words)
+            self.assertFalse(it.is_open)
+
+    def test_an_object_that_was_never_opened(self):
+        for kind in (Channel, Controller, Device):
+            it = kind.__new__(kind)
+            for name, call, names in calls_of(it):
+                with self.subTest("%s.%s" % (kind.__name__, name)), self.assertRaises((AttributeError, RuntimeError)):
+                    call(*words_of(name, names))
+            self.assertRaises(AttributeError, it.close)
 
     def test_representations(self):
         self.assertEqual(repr(Controller(64, 2)), "<dma330.Controller, 64 bytes, 2 channels>")

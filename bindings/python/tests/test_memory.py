@@ -1,6 +1,5 @@
 """Lent memory: any buffer that can be written, without a copy, and kept where it is."""
 import array
-import ctypes
 import gc
 import mmap
 import os
@@ -9,7 +8,7 @@ import tempfile
 import unittest
 
 import dma330
-from dma330 import Channel, LastStep, Fault, Region
+from dma330 import Channel, Controller, LastStep, Fault, Region
 
 try:
     import numpy
@@ -158,17 +157,72 @@ class Memory(unittest.TestCase):
             with self.assertRaises(AttributeError):
                 setattr(it, name, 0)
 
+    def test_an_empty_region_at_the_address_of_another(self):
+        ram = bytearray(b"\7" + bytes(15))
+        regions = [Region(0, ram), Region(0, b""), Region(16, bytearray())]
+        for them in (regions, regions[::-1], [regions[1], regions[2], regions[0]]):
+            it = Channel(them)
+            self.assertEqual([len(one) for one in it.regions], [0, 16, 0])
+            it.load_fill(0, (1, 15))
+            self.assertEqual(it.run().last, LastStep.ENDED)
 
-    def test_objects_are_not_lent(self):
-        class Named(ctypes.Structure):
-            _fields_ = [("O", ctypes.c_uint32)]
+    def test_a_region_is_made_once(self):
+        """What a channel uses stays where it is, whatever becomes of the region."""
+        ram, other = bytearray(b"\x11" * 4096), bytearray(4096)
+        region = Region(RAM, ram)
+        it = Channel([region])
+        self.assertRaises(RuntimeError, region.__init__, 0, other)
+        self.assertEqual((region.addr, region.buffer is ram, len(region)), (RAM, True, 4096))
+        other.clear()
+        del region._parts
+        for _ in range(3):
+            gc.collect()
+            self.assertRaises(BufferError, ram.clear)
+        it.load_fill(RAM, (RAM + 256, 64))
+        self.assertEqual(it.run().last, LastStep.ENDED)
+        it.regions = []
+        ram.clear()
 
-        class Pair(ctypes.Structure):
-            _fields_ = [("number", ctypes.c_uint32), ("one", ctypes.py_object)]
+    def test_a_region_whose_making_failed(self):
+        region = Region.__new__(Region)
+        self.assertRaises(AttributeError, lambda: region.addr)
+        self.assertRaises(AttributeError, repr, region)
+        self.assertRaises(AttributeError, Channel, [region])
+        self.assertRaises(OverflowError, region.__init__, -1, bytearray(8))
+        region.__init__(0, bytearray(8))
+        self.assertEqual(len(Channel([region]).regions[0]), 8)
 
-        for memory in ((ctypes.py_object * 4)(), (Pair * 2)()):
-            self.assertRaises(TypeError, Region, 0, memory)
-        self.assertEqual(len(Region(0, (Named * 4)())), 16)
+    def test_classes_derived_from_region(self):
+        """A derived class may add to a region, and has no say in where its memory is."""
+        class Named(Region):
+            def __init__(self, name, *words):
+                super().__init__(*words)
+                self.name = name
+
+        class Other(Region):
+            addr, place = property(lambda self: 0x5000), property(lambda self: 16)
+            read_only = property(lambda self: False)
+
+            def __len__(self):
+                return 1 << 30
+
+        class Hidden(Region):
+            _parts = (0, 1 << 30, 16, False, None)
+
+        class Kept(Region):
+            _parts = property(lambda self: self.it, lambda self, it: setattr(self, "it", it))
+
+        ram = bytearray(range(16))
+        it = Channel([Named("ram", 0, ram), Other(16, b"\7" * 16)])
+        self.assertEqual(it.regions[0].name, "ram")
+        it.load_copy((16, 4), (0, 4))
+        self.assertEqual((it.run().last, ram[:5]), (LastStep.ENDED, b"\7\7\7\7\4"))
+        it.load_copy((0, 4), (16, 4))
+        self.assertEqual(it.run().fault, Fault.DATA_WRITE_ERR)
+        self.assertRaises(RuntimeError, Hidden, 0, bytearray(8))
+        self.assertRaises(AttributeError, lambda: Channel([Kept(0, bytearray(8))]))
+        for other in (None, 5, ram, Controller, Region):
+            self.assertRaises(TypeError, Channel, [other])
 
     def test_a_class_derived_from_bytes(self):
         class Longer(bytes):

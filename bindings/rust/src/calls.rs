@@ -17,7 +17,7 @@
 //! - Pointers of a call don't overlap unless both are only read, and nobody else uses what they point to: Rust's rules
 //!   of `&mut` and `&` ensure this.
 //! - The program must ensure the rest: one allocator behind `malloc`, no call from a signal handler or from the forked
-//!   child of a process with threads, and 32 KiB of stack.
+//!   child of a process with threads, and 64 KiB of stack.
 
 mod over_regions;
 mod programs;

@@ -254,7 +254,8 @@ impl Device {
     /// Makes the device the one that was saved. Bytes that are the save of no device of this configuration are refused,
     /// so each save with a flipped bit.
     ///
-    /// Fails with `OtherDevice`; or with `BadSave`, after which the device is in its state after a reset.
+    /// Fails with `OtherDevice` if the first 15 bytes are of another version or configuration, and changes nothing then;
+    /// or with `BadSave`, after which the device is in its state after a reset.
     pub fn restore(&mut self, save: &[u8]) -> Result<(), Error> {
         self.handle.restore(save)
     }

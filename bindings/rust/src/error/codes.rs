@@ -57,7 +57,7 @@ pub enum Error {
     StepsSpent,
     /// The bytes are no save of a channel, or of any device.
     BadSave,
-    /// The save has another version, or is of a device of another configuration.
+    /// The bytes begin as a save of another version, or of another configuration.
     OtherDevice,
     /// The call conflicts with a running transfer.
     Busy {
@@ -146,7 +146,7 @@ pub const TEXTS: [(Error, &str); 23] = [
     (Error::CookiesSpent, "the channel has used cookie 2147483647"),
     (Error::StepsSpent, "an instruction is due, and the step count is 2^64 - 1"),
     (Error::BadSave, "the bytes are no save of a channel, or of any device"),
-    (Error::OtherDevice, "the save has another version, or is of a device of another configuration"),
+    (Error::OtherDevice, "the bytes begin as a save of another version, or of another configuration"),
 ];
 
 /// What it says of each code of a line.
