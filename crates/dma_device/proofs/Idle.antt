@@ -1,5 +1,5 @@
 -- Devices stay sound, and a turn of a sound device whose threads can't step does nothing.
-use Rattle.std.proofs.Common.{◌≡◌, ◌∙◌, ℕ, ◌+◌, ◌%◌, ◌/◌, ◌<◌, ◌≤◌, Bool, true, false, List, Some, ap, refl, sym, subst, arith, bit_and, w32}
+use Rattle.std.proofs.Common.{◌≡◌, ◌∙◌, ℕ, ◌+◌, ◌%◌, ◌/◌, ◌<◌, ◌≤◌, Bool, true, false, List, ap, refl, sym, subst, arith, bit_and, w32}
 use Rattle.std.specs.{Prelude.◌==◌, Prelude.nat_lt, Int.bit_not}
 use Rattle.std.proofs.{Math.Pow.pow-lt, lemmas.Bool.and_parts, lemmas.Nat.or_lt, lemmas.Nat.pow_pos}
 use Rattle.dma_insn.specs.ControlWord.{field}

@@ -1,4 +1,4 @@
-use Rattle.std.proofs.Common.{refl, subst, sym}
+use Rattle.std.proofs.Common.{subst, sym}
 use Rattle.dma_device.specs.Thread.{IsOn, IsSound}
 use Rattle.dma_device.proofs.Sound.{started_sound, with_new}
 use Rattle.dma_device.proofs.device.Device.start.Goals as goal
