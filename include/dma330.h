@@ -970,15 +970,21 @@ int32_t dma330_device_can_step(dma330_device *device, uint32_t *can_step) DMA330
  *     end          4: the Adler-32 checksum (RFC 1950) of all bytes before it */
 int32_t dma330_device_save(dma330_device *device, uint8_t *out, size_t room, size_t *len) DMA330_NO_NULLS;
 
-/* Makes the device the one that was saved. Refuses bytes that are the save of no device of this configuration, among
- * them each save in which one byte is changed. Codes: OTHER_DEVICE, if there are 15 bytes or more, the first 7 are
- * those of dma330_device_save, and the next 8 aren't this version with this configuration: the device stays as it was.
- * BAD_SAVE, if anything else is wrong, also if there are fewer bytes: the device is then in its state after a reset.
+/* Makes the device the one that was saved. Codes: OTHER_DEVICE, if there are 15 bytes or more, the first 7 are those of
+ * dma330_device_save, and the next 8 aren't this version with this configuration: the device stays as it was. BAD_SAVE,
+ * if anything else is wrong, also if there are fewer bytes: the device is then in its state after a reset.
  *
- * The restore also tests what holds of each save that a device wrote. Events, interrupts and INTEN have bits only of
- * the device's events. A stopped channel has no program; one that executes or waits has one. CPC of one that waits is
- * the address of a DMAWFE of an event of the device, and this channel has executed fewer than 4294967295 instructions.
- * No beat in CCR is wider than the bus. */
+ * A save in which one byte is changed is refused. So is one whose values don't go together as they do in each device:
+ * - Events, interrupts and INTEN have bits only of the device's events.
+ * - FTRD is 0 or the fault of a debug instruction, and it isn't 0 if the manager is faulting.
+ * - A stopped channel has no program. One that executes or waits has a program, and its FTR is 0. FTR of a faulting one
+ *   isn't 0.
+ * - CPC is the address at which the program begins, plus the offset of the next instruction in it. If FTR isn't 0, CPC
+ *   may be two less, the address of a DMASEV that has failed.
+ * - CPC of a channel that waits is the address of a DMAWFE of an event of the device, and this channel has executed
+ *   fewer than 4294967295 instructions.
+ * - No beat in CCR is wider than the bus, and load_copy or load_fill has made no program.
+ * A restore doesn't test whether a guest can bring a device into the saved state, so a forged one may be accepted. */
 int32_t dma330_device_restore(dma330_device *device, const uint8_t *save, size_t len) DMA330_NO_NULLS;
 
 /* ---- programs of channels ----

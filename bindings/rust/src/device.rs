@@ -251,8 +251,9 @@ impl Device {
         out
     }
 
-    /// Makes the device the one that was saved. Bytes that are the save of no device of this configuration are refused,
-    /// so each save with a flipped bit.
+    /// Makes the device the one that was saved. Each save with a flipped bit is refused, and so is one whose values don't
+    /// go together. A restore doesn't test whether a guest can bring a device into the saved state, so a forged one may
+    /// be accepted.
     ///
     /// Fails with `OtherDevice` if the first 15 bytes are of another version or configuration, and changes nothing then;
     /// or with `BadSave`, after which the device is in its state after a reset.
