@@ -63,8 +63,8 @@ impl Gate for UntilAsked {
     }
 }
 
-// Submits a copy of four bytes to a channel and issues it, and lets the reader learn the ticket. Returns the cookie.
-fn submit<N: DeskName, R: Wait>(
+/// Submits a copy of four bytes to a channel and issues it, and lets the reader learn the ticket. Returns the cookie.
+pub fn submit<N: DeskName, R: Wait>(
     rt: &R,
     alloc: Global,
     shared: &Shared<N>,

@@ -1,10 +1,12 @@
-//! A copy that a desk terminates after each of its instructions, and what a reader returns afterwards.
+//! A copy that a desk terminates after each of its instructions, or that meets a mark at one of its bursts, and what a
+//! reader returns afterwards.
 
-ghost use Rattle.std.specs.Prelude.{◌≡◌, ◌≤◌};
+ghost use Rattle.std.specs.Prelude.{◌≡◌, ◌≤◌, IfOk};
 ghost use Rattle.dma_work.specs.Desk.{Names};
 
 use crate::statuses::parts_of;
 use dma_engine::{Engine, Outcome, Status, TransResult, Turn};
+use dma_mem::marks::MarkKind;
 use dma_mem::segment::Segment;
 use dma_mem::transfer::Transfer;
 use dma_work::{Closed, Desk, DeskName, Parts, Receipt, StatusReader, Tally};
@@ -14,17 +16,17 @@ use std::process::Abort;
 use std::sync::Wait;
 use std::test::Fail;
 
-const SIZE: u32 = 0x4000;
+pub const SIZE: u32 = 0x4000;
 
-// The copy has bursts of 256, 32 and 12 bytes, and 20 instructions.
-const SRC: u32 = 0x1000;
+/// The copy has bursts of 256, 32 and 12 bytes, and 20 instructions.
+pub const SRC: u32 = 0x1000;
 
-const DST: u32 = 0x2000;
+pub const DST: u32 = 0x2000;
 
-const LEN: u32 = 300;
+pub const LEN: u32 = 300;
 
-// Returns how many bytes this many instructions of the copy store.
-fn stored_by(moved: u32) -> u32
+/// Returns how many bytes this many instructions of the copy store.
+pub fn stored_by(moved: u32) -> u32
     ensures { result ≤ 300 }
 {
     match moved {
@@ -35,13 +37,13 @@ fn stored_by(moved: u32) -> u32
     }
 }
 
-// Returns the byte at a position of the source.
-fn source_byte(position: u32) -> u8 {
+/// Returns the byte at a position of the source.
+pub fn source_byte(position: u32) -> u8 {
     (position % 251) as u8
 }
 
-// Returns the byte at an address after the copy has stored its first `done` bytes.
-fn byte_after(addr: u32, done: u32) -> u8
+/// Returns the byte at an address after the copy has stored its first `done` bytes.
+pub fn byte_after(addr: u32, done: u32) -> u8
     requires { done ≤ 300 }
 {
     if SRC <= addr && addr < SRC + LEN {
@@ -51,6 +53,33 @@ fn byte_after(addr: u32, done: u32) -> u8
     } else {
         0
     }
+}
+
+/// A mark of one byte: its kind and its address, how many instructions of the copy are executed before the copy ends,
+/// how it ends, and the residue.
+pub type Mark = (MarkKind, u32, u32, TransResult, u32);
+
+/// Marks of either kind in each burst of the copy, and three that no burst of their kind touches.
+pub static MARKS: [Mark; 11] = [
+    (MarkKind::Reading, 0x1000, 4, TransResult::ReadFailed, 300),
+    (MarkKind::Reading, 0x10ff, 4, TransResult::ReadFailed, 300),
+    (MarkKind::Reading, 0x1100, 10, TransResult::ReadFailed, 44),
+    (MarkKind::Reading, 0x1120, 15, TransResult::ReadFailed, 12),
+    (MarkKind::Reading, 0x112b, 15, TransResult::ReadFailed, 12),
+    (MarkKind::Writing, 0x2000, 6, TransResult::WriteFailed, 300),
+    (MarkKind::Writing, 0x2100, 12, TransResult::WriteFailed, 44),
+    (MarkKind::Writing, 0x2120, 17, TransResult::WriteFailed, 12),
+    (MarkKind::Reading, 0x112c, 19, TransResult::NoError, 0),
+    (MarkKind::Writing, 0x1000, 19, TransResult::NoError, 0),
+    (MarkKind::Reading, 0x2000, 19, TransResult::NoError, 0),
+];
+
+// How the copy ends.
+#[derive(Clone, Copy)]
+enum Ending {
+    /// It is terminated after this many instructions.
+    Terminated(u32),
+    Marked(Mark),
 }
 
 // Returns whether the memory is as after the copy has stored its first `done` bytes.
@@ -116,21 +145,15 @@ fn step<N: DeskName, R: Wait + Abort>(rt: &R, desk: &mut Desk<N>, moved: u32) ->
     Ok(())
 }
 
-// Terminates the copy after this many instructions. A reader that then learns the ticket of another submit knows that
-// the copy is complete.
-fn stop_after<N: DeskName, R: Wait + Abort>(
+// Terminates the copy after this many instructions. Returns how many bytes are then stored.
+fn terminate_after<N: DeskName, R: Wait + Abort>(
     rt: &R,
-    alloc: Global,
     desk: &mut Desk<N>,
-    reader: &mut StatusReader,
     moved: u32,
-) -> Result<(), Fail>
-    requires { (N.log ≡ reader.old.log) × (N.base ≡ reader.old.base) }
+) -> Result<u32, Fail>
+    ensures { IfOk result (λ done. done ≤ 300) }
 {
-    fill(alloc, desk)?;
-    assert!(rt; submit(rt, alloc, desk, reader)? == 1);
     step(rt, desk, moved)?;
-    assert!(rt; reader.status(0, 1) == Some(Status::InProgress));
     let Closed { count, through, .. } = desk.terminate(rt, 0)?;
     assert!(rt; (count, through) == (1, 1));
     let done = stored_by(moved);
@@ -142,6 +165,44 @@ fn stop_after<N: DeskName, R: Wait + Abort>(
     assert!(rt; has_copied(desk, done)?);
     let mut tally: Tally<N> = desk.tally(0);
     assert!(rt; matches!(&desk.step(rt, 0, &mut tally)?, Turn::Nothing));
+    Ok(done)
+}
+
+// Lets the copy end, with a mark. Returns how many bytes are then stored.
+fn end_at<N: DeskName, R: Wait + Abort>(rt: &R, desk: &mut Desk<N>, mark: Mark) -> Result<u32, Fail>
+    ensures { IfOk result (λ done. done ≤ 300) }
+{
+    let (kind, addr, moved, result, residue) = mark;
+    desk.mark(kind, Segment { addr, len: 1 })?;
+    step(rt, desk, moved)?;
+    let mut tally: Tally<N> = desk.tally(0);
+    let ended = Turn::Finished {
+        cookie: 1,
+        result,
+        residue,
+    };
+    assert!(rt; desk.step(rt, 0, &mut tally)? == ended);
+    assert!(rt; desk.result(0, 1) == Some(Outcome { result, residue }));
+    Ok(LEN.saturating_sub(residue))
+}
+
+// Stops the copy. A reader that then learns the ticket of another submit knows that the copy is complete.
+fn stop<N: DeskName, R: Wait + Abort>(
+    rt: &R,
+    alloc: Global,
+    desk: &mut Desk<N>,
+    reader: &mut StatusReader,
+    how: Ending,
+) -> Result<(), Fail>
+    requires { (N.log ≡ reader.old.log) × (N.base ≡ reader.old.base) }
+{
+    fill(alloc, desk)?;
+    assert!(rt; submit(rt, alloc, desk, reader)? == 1);
+    assert!(rt; reader.status(0, 1) == Some(Status::InProgress));
+    let done = match how {
+        Ending::Terminated(moved) => terminate_after(rt, desk, moved)?,
+        Ending::Marked(mark) => end_at(rt, desk, mark)?,
+    };
     assert!(rt; has_copied(desk, done)?);
     assert!(rt; submit(rt, alloc, desk, reader)? == 2);
     assert!(rt; reader.status(0, 1) == Some(Status::Complete));
@@ -154,27 +215,37 @@ fn stopped_at_a_desk<N: DeskName, R: Wait + Abort>(
     alloc: Global,
     parts: Parts,
     mut reader: StatusReader,
-    moved: u32,
+    how: Ending,
 ) -> Result<(), Fail>
     requires names { Names N.opening N.base N.log parts }
     requires follows { (N.log ≡ reader.log) × (N.base ≡ reader.base) }
 {
     let mut desk = Desk::<N>::new(parts);
-    let stopped = stop_after(rt, alloc, &mut desk, &mut reader, moved);
+    let stopped = stop(rt, alloc, &mut desk, &mut reader, how);
     desk.close(rt);
     stopped
 }
 
-fn stopped<R: Wait + Abort>(rt: &R, alloc: Global, moved: u32) -> Result<(), Fail> {
+fn stopped<R: Wait + Abort>(rt: &R, alloc: Global, how: Ending) -> Result<(), Fail> {
     let engine = Engine::new(alloc, SIZE, 1)?;
     let (parts, reader) = parts_of(rt, alloc, engine)?;
-    stopped_at_a_desk::<Brand, R>(rt, alloc, parts, reader, moved)
+    stopped_at_a_desk::<Brand, R>(rt, alloc, parts, reader, how)
 }
 
+/// A copy is terminated through a desk after any of its instructions.
 #[test]
 fn a_copy_is_stopped_at_each_step(rt: HostRuntime) -> Result<(), Fail> {
     for moved in 0..20 {
-        stopped(&rt, rt.alloc(), moved)?;
+        stopped(&rt, rt.alloc(), Ending::Terminated(moved))?;
+    }
+    Ok(())
+}
+
+/// A copy ends through a desk at the first of its bursts that touches a mark of the burst's kind.
+#[test]
+fn a_copy_meets_a_mark(rt: HostRuntime) -> Result<(), Fail> {
+    for mark in MARKS {
+        stopped(&rt, rt.alloc(), Ending::Marked(mark))?;
     }
     Ok(())
 }

@@ -10,13 +10,13 @@ use std::alloc::{AllocError, Global};
 use std::io;
 use std::io::{ErrorKind, Read, Write};
 
-// Returns these bytes, at most two of them per read, until a read fails.
+/// Returns these bytes, at most two of them per read, until a read fails.
 #[derive(Drop)]
-struct Bytes<'a> {
-    rest: &'a [u8],
-    // the number of reads before the one that fails
-    left: u32,
-    failed: bool,
+pub struct Bytes<'a> {
+    pub rest: &'a [u8],
+    /// The number of reads before the one that fails.
+    pub left: u32,
+    pub failed: bool,
 }
 
 impl Read for Bytes<'_> {
@@ -44,13 +44,13 @@ impl Source for Bytes<'_> {
     }
 }
 
-// Keeps what is written, at most two bytes per write, until a write fails.
+/// Keeps what is written, at most two bytes per write, until a write fails.
 #[derive(Drop)]
-struct Kept {
-    bytes: Vec<u8>,
-    // the number of writes before the one that fails
-    left: u32,
-    failed: bool,
+pub struct Kept {
+    pub bytes: Vec<u8>,
+    /// The number of writes before the one that fails.
+    pub left: u32,
+    pub failed: bool,
 }
 
 impl Write for Kept {

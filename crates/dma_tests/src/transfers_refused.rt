@@ -11,8 +11,8 @@ use dma_mem::transfer::{Transfer, TransferFault};
 use std::alloc::Global;
 use std::test::Fail;
 
-// The program of a copy of 300 bytes from 0x1000 to 0x2000: a burst of 256 bytes, one of 32 and one of 12.
-static PROGRAM: &[u8] = b"\xbc\0\0\x10\0\0\xbc\x02\0\x20\0\0\
+/// The program of a copy of 300 bytes from 0x1000 to 0x2000: a burst of 256 bytes, one of 32 and one of 12.
+pub static PROGRAM: &[u8] = b"\xbc\0\0\x10\0\0\xbc\x02\0\x20\0\0\
     \xbc\x01\xf9\x40\x3e\0\x22\0\x04\x12\x08\x13\x3c\x04\
     \xbc\x01\x19\x40\x06\0\x04\x12\x08\x13\xbc\x01\xb1\x40\x2c\0\x04\x12\x08\x13\0";
 

@@ -6,6 +6,8 @@
 
 mod command_line;
 mod race;
+#[cfg(test)]
+mod races;
 
 use clap::error::ErrorKind;
 use clap::{Command, Error};
