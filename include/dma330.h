@@ -31,7 +31,7 @@
  * 6. While a call runs, nobody else writes what its pointers point to, or reads what it writes. There is one exception:
  *    a guest's running processors may read and write the bytes of regions. "Beside running processors" in
  *    docs/DEVICES.md says what they then see.
- * 7. 64 KiB of stack are free; the most that was measured is 29.
+ * 7. 64 KiB of stack are free; the most that was measured is 29 KiB, on x86-64.
  * 8. malloc, realloc and free are one allocator. It aligns each block to 16 bytes. A block whose size isn't a multiple
  *    of 16 may have less: the largest power of two that divides its size.
  *
@@ -706,10 +706,11 @@ int32_t dma330_steps(dma330_controller *controller, uint64_t *steps) DMA330_NO_N
  * each call for injected errors, and for each wait that passes, each signal and each finish. */
 int32_t dma330_history_entries(dma330_controller *controller, uint64_t *count) DMA330_NO_NULLS;
 
-/* Writes the number of bytes of writes and reads that the history keeps, in time proportional to its entries. An entry
- * has 64 bytes, and the list of entries has room for up to twice as many: so an entry takes 64 to 128 bytes of memory,
- * and up to 192 while the list grows. A write or a read of over 22 bytes takes these bytes and 24 more. A submit takes
- * 16 to 32 more for its result, and more again if it has lists of several segments. */
+/* Writes the number of bytes of writes and reads that the history keeps, in time proportional to its entries. This is
+ * not the memory that the history takes. An entry has 64 bytes, and the list of entries has room for up to twice as
+ * many. So an entry takes 64 to 128 bytes of memory, and up to 192 while the list grows. A write or a read of over 22
+ * bytes takes these bytes and 24 more. A submit takes 16 to 32 more for its result, and more again if it has lists of
+ * several segments. */
 int32_t dma330_history_bytes(dma330_controller *controller, uint64_t *count) DMA330_NO_NULLS;
 
 /* Writes the number of running transfers of all channels. */
@@ -885,9 +886,9 @@ int32_t dma330_device_write(dma330_device *device, uint32_t offset, uint32_t val
  * faulting, or that the device doesn't have, does nothing. The turn ends early in five cases:
  * - the program ends, waits or fails;
  * - it has executed a DMASEV, so that you can set the interrupt lines;
- * - it has executed 4294967295 instructions since its DMAGO; the next turn then takes 0 steps and fails by lockup_err,
- *   since this failure isn't counted as a step (if the last of these instructions is the DMASEV of an interrupt, this
- *   turn fails already, where it would take one more step);
+ * - it has executed 4294967295 instructions since its DMAGO. In the channel's next turn that may take a step, it takes
+ *   none and fails by lockup_err, since this failure isn't counted as a step. (If the last of these instructions is the
+ *   DMASEV of an interrupt, and the turn would take one more step, the channel fails in this turn already.)
  * - its next store neither overlaps nor touches the range written so far, since a turn reports one range without gaps;
  * - its next store would make this range 2^32 bytes long, which `written.len` can't hold.
  *
@@ -974,16 +975,19 @@ int32_t dma330_device_save(dma330_device *device, uint8_t *out, size_t room, siz
  * dma330_device_save, and the next 8 aren't this version with this configuration: the device stays as it was. BAD_SAVE,
  * if anything else is wrong, also if there are fewer bytes: the device is then in its state after a reset.
  *
- * A save in which one byte is changed is refused. So is one whose values don't go together as they do in each device:
+ * A save in which one byte is changed is refused. A save is also refused if its values don't go together. These rules
+ * hold in each device:
  * - Events, interrupts and INTEN have bits only of the device's events.
  * - FTRD is 0 or the fault of a debug instruction, and it isn't 0 if the manager is faulting.
  * - A stopped channel has no program. One that executes or waits has a program, and its FTR is 0. FTR of a faulting one
  *   isn't 0.
- * - CPC is the address at which the program begins, plus the offset of the next instruction in it. If FTR isn't 0, CPC
- *   may be two less, the address of a DMASEV that has failed.
- * - CPC of a channel that waits is the address of a DMAWFE of an event of the device, and this channel has executed
- *   fewer than 4294967295 instructions.
- * - No beat in CCR is wider than the bus, and load_copy or load_fill has made no program.
+ * - CPC is the address at which the program begins, plus the offset of the next instruction in it (modulo 2^32). If FTR
+ *   isn't 0, CPC may also be 2 less, since a DMASEV that has failed leaves it so. Which instruction is there isn't
+ *   tested.
+ * - CPC of a channel that waits is the address of a DMAWFE of the event in its CSR, which is one of the device's, and
+ *   this channel has executed fewer than 4294967295 instructions.
+ * - No beat in CCR is wider than the bus.
+ * - The save of a channel doesn't say that dma330_channel_load_copy or dma330_channel_load_fill made its program.
  * A restore doesn't test whether a guest can bring a device into the saved state, so a forged one may be accepted. */
 int32_t dma330_device_restore(dma330_device *device, const uint8_t *save, size_t len) DMA330_NO_NULLS;
 

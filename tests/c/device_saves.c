@@ -278,12 +278,12 @@ static void refuses_forged_threads(void)
     check(forged_thread(1, 0, cpc) == DMA330_OK, "its own words", 0);
     check(forged_thread(1, 0, cpc + 1) == DMA330_BAD_SAVE, "CPC one too far", 0);
     check(forged_thread(1, 0, cpc - 1) == DMA330_BAD_SAVE, "CPC one too low", 0);
-    check(forged_thread(1, 0, cpc - 2) == DMA330_BAD_SAVE, "CPC at a DMASEV that hasn't failed", 0);
+    check(forged_thread(1, 0, cpc - 2) == DMA330_BAD_SAVE, "CPC two less without a fault", 0);
     check(forged_word(HEAD + 8, base + 4) == DMA330_BAD_SAVE, "another address of the program", 0);
     check(forged_thread(1, 0xFFFFFFFF, cpc) == DMA330_BAD_SAVE, "faults while it executes", 0);
     check(forged_thread(15, 0, cpc) == DMA330_BAD_SAVE, "faulting without a fault", 0);
     check(forged_thread(15, UNDEF, cpc) == DMA330_OK, "faulting", 0);
-    check(forged_thread(15, 2, cpc - 2) == DMA330_OK, "faulting at a DMASEV", 0);
+    check(forged_thread(15, 2, cpc - 2) == DMA330_OK, "faulting, and CPC as after a DMASEV", 0);
     check(forged_thread(15, 2, cpc - 3) == DMA330_BAD_SAVE, "faulting elsewhere", 0);
     check(forged_word(FTRD_AT, 0xFFFFFFFF) == DMA330_BAD_SAVE, "a fault that no manager has", 0);
     check(forged_word(FTRD_AT, DBG | UNDEF) == DMA330_OK, "a fault from before a DMAKILL", 0);

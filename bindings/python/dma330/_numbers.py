@@ -57,7 +57,8 @@ def _below_array(it: Any, array: Any) -> List[Any]:
 
 
 def _below_view(it: memoryview, known: Any) -> List[Any]:
-    """Returns of which object it is a view; of one that isn't known, the format has to be that of a number."""
+    """Returns what a view is a view of. If this isn't a known kind of object, the view's format has to be that of one
+    number."""
     if issubclass(type(it.obj), known):
         return [it.obj]
     if not _FORMAT.fullmatch(it.format):

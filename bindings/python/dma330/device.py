@@ -162,7 +162,9 @@ class Device(OverRegions):
         return self._save(MAX_DEVICE_SAVE)
 
     def restore(self, save: Buffer) -> None:
-        """Makes the device the one that was saved. Raises OtherDevice if the first 15 bytes are of another version or
-        configuration, and then changes nothing; BadSave, after which the device is in its state after a reset."""
+        """Makes the device the one that was saved. A save in which one byte has changed is refused, and so is one whose
+        values don't go together; a forged one may be accepted. Raises OtherDevice if the first 15 bytes are those of a
+        save of another version or configuration; then nothing changes. Raises BadSave if anything else is wrong; then
+        the device is in its state after a reset."""
         save = bytes_of(save)
         self._call("restore", save, len(save))

@@ -101,7 +101,7 @@ class Region:
             first = u8.from_buffer(view) if view.nbytes else u8()
             place = ctypes.addressof(first)
         self._buffer = buffer
-        # The last of these holds the memory. One member has them all, so that who reads it has what belongs together.
+        # The last of these holds the memory. All are in one member, so that another thread never reads parts of two.
         self._parts = number(addr, 32, "address"), view.nbytes, place, bool(read_only) or view.readonly, first
 
     @property

@@ -255,8 +255,8 @@ impl Device {
     /// go together. A restore doesn't test whether a guest can bring a device into the saved state, so a forged one may
     /// be accepted.
     ///
-    /// Fails with `OtherDevice` if the first 15 bytes are of another version or configuration, and changes nothing then;
-    /// or with `BadSave`, after which the device is in its state after a reset.
+    /// Fails with `OtherDevice` if the first 15 bytes are those of a save of another version or configuration; then
+    /// nothing changes. Fails with `BadSave` if anything else is wrong; then the device is in its state after a reset.
     pub fn restore(&mut self, save: &[u8]) -> Result<(), Error> {
         self.handle.restore(save)
     }

@@ -1,6 +1,6 @@
 -- A board has several devices over one memory, on one of which a driver starts a program that copies. The channel's
 -- turns are lent the addresses that the program reads or writes. All else that happens may be lent any part of the
--- memory: the write to DBGCMD only the program, and another device only what it may use.
+-- memory: for example, the write to DBGCMD only the program, and another device only what that device may use.
 use Rattle.std.specs.Prelude.{◌≡◌, ◌≢◌, ℕ, zero, suc, ◌+◌, ◌-◌, ◌*◌, ◌%◌, ◌<◌, ◌≤◌, Bool, true, false, ◌&&◌, ◌==◌, List, [], ◌∷◌, ◌++◌, length}
 use Rattle.std.specs.Prelude.{slice_get, slice_index, slice_index_or, if◌then◌else◌}
 use Rattle.std.specs.List.{Contains, list_any}
@@ -172,7 +172,8 @@ pub record CopiesOn (go : Go) (w : Work) (n b : ℕ) (h : BoardEvents) (memory :
 -- ---- laws
 
 -- The channel's turns run the copy. So all that is proved of such turns holds on the board. What it supposes of
--- regions, such as `IsFit`, it supposes of these turns only.
+-- regions, such as `IsFit`, it supposes of these turns only. It speaks of the regions of these turns. By `Meets` they
+-- have the memory's bytes at the addresses that w uses, and by `BoardRests` these stay until the next turn.
 abbrev pub BoardRunsCopy : Type 0
 BoardRunsCopy =
     (go : Go) (w : Work) (n b : ℕ) (h : BoardEvents) (memory : ℕ → List ℕ) →
@@ -186,8 +187,8 @@ pub record Rests (go : Go) (w : Work) (b : ℕ) (h : BoardEvents) (memory : ℕ 
       slice_get (h.before k b).threads go.channel ≡ slice_get (h.before i b).threads go.channel
   pub bytes : (a : ℕ) → Uses w a → slice_index (memory k) a ≡ slice_index (memory i) a
 
--- This is so if none of the events between is a turn of the channel. So what holds after a turn still holds before the
--- next one, and the first turn finds what the DMAGO left.
+-- A channel rests from event number i to event number k if none of the events between is a turn of the channel. So what
+-- holds after a turn still holds before the next one, and the first turn finds what the DMAGO left.
 abbrev pub BoardRests : Type 0
 BoardRests =
     (go : Go) (w : Work) (n b : ℕ) (h : BoardEvents) (memory : ℕ → List ℕ) (i k : ℕ) →
@@ -219,7 +220,8 @@ BoardLeavesThread =
     (h : BoardEvents) (n b k : ℕ) → Happens h → k < h.count → is_turn_at h b n k ≡ false →
     (h.device k ≡ b → SparesThread n (h.access k) (h.before k b)) → LeavesThread h n b k
 
--- An event that writes no address that w uses leaves the memory's byte at each of them at which it shares the memory.
+-- Suppose that an event writes no address that w uses. At each of these addresses at which it shares the memory, it
+-- leaves the memory's byte as it is.
 abbrev pub BoardLeavesBytes : Type 0
 BoardLeavesBytes =
     (h : BoardEvents) (memory : ℕ → List ℕ) (w : Work) (k a : ℕ) → Happens h → k < h.count →

@@ -149,8 +149,8 @@ read_at d at =
 abbrev pub manager_failed : ℕ → DeviceValue → DeviceValue
 manager_failed why d = record d { manager = record { is_faulting = true; fault = why + dbg_instr } }
 
--- Whether the manager can have this FTRD: the fault of a debug instruction, or 0 if the manager isn't faulting. If it
--- isn't faulting, it may have failed before a DMAKILL, and keeps the fault.
+-- Whether FTRD goes with the manager: it has the fault of a debug instruction, or is 0 if the manager isn't faulting. If
+-- the manager isn't faulting, it may have failed before a DMAKILL, which keeps the fault.
 abbrev pub has_ftrd : Manager → Bool
 has_ftrd m =
     m.fault == 0 && not m.is_faulting

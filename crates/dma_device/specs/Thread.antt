@@ -84,15 +84,15 @@ has_status events t Executing = is_some t.channel.program
 has_status events t (WaitingForEvent e) = is_some t.channel.program && (nat_lt e events && is_before_wait e t)
 has_status events t Faulting = true
 
--- Whether a thread can have this CPC: the address of its channel's next instruction. If FTR has a fault, it may be two
--- bytes before that, the address of a DMASEV that has failed (`moved`).
+-- Whether CPC goes with the rest of a thread: it is the address of its channel's next instruction. If FTR has a fault,
+-- it may also be two bytes before that, since a DMASEV that fails leaves it so (`moved`).
 abbrev pub has_place : Thread → Bool
 has_place t =
     let next = (t.base + t.channel.registers.pc) % 2 ^ 32 in
     t.pc % 2 ^ 32 == next || ((t.pc + 2) % 2 ^ 32 == next && not (t.fault == 0))
 
--- Whether a thread with this status can have this FTR: a DMAGO clears it, and a failure sets it. A thread that is
--- stopped may have failed before a DMAKILL, and keeps the fault.
+-- Whether this FTR goes with this status: a DMAGO clears it, and a failure sets it. A thread that is stopped may have
+-- failed before a DMAKILL, which keeps the fault.
 abbrev pub has_fault : Status → ℕ → Bool
 has_fault Stopped fault = true
 has_fault Faulting fault = not (fault == 0)

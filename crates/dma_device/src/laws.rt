@@ -114,15 +114,16 @@ pub fn a_refused_dmago_fails()
 {}
 
 /// A board has several devices over one memory. From the DMAGO on, any events on all devices happen in any order:
-/// register accesses, turns of channels, bytes that the processor writes, resets and restores. The DMAGO may be any
-/// write to DBGCMD that executes it, while the debug registers have it in the bits that count. If nothing but the
-/// channel's own turns changes its thread, then each of its turns writes only destinations and zeros of the work that
-/// explains its program, and reads only the sources, whatever memory each event is lent. If besides nothing but these
-/// turns changes bytes that the work uses, and they are lent these bytes, then the work is done from the memory at the
-/// DMAGO once the channel's CSR reads as stopped, and `a_dmago_copies`, `a_dmago_interrupts`, `a_dmago_is_underway`,
-/// `a_dmago_never_fails` and `a_dmago_finishes` are about the channel's turns. What these suppose of lent memory, they
-/// suppose of the channel's turns only. All other events may be lent any part of the memory: the write to DBGCMD only
-/// the program. Between the channel's turns its thread and these bytes stay as they are.
+/// register accesses, turns of channels, bytes that the processor writes, resets and restores. The write to DBGCMD that
+/// executes the DMAGO may have any value whose bits 1:0 are 0, and the bits of DBGINST0 that a device ignores may have
+/// any value. Suppose that nothing but the channel's own turns changes its thread. Then each of its turns writes only
+/// destinations and zeros of the work that explains its program, and reads only the sources, whatever memory each event
+/// is lent. Suppose besides that nothing but these turns changes bytes that the work uses, and that each of these turns
+/// is lent these bytes. Then the work is done from the memory at the DMAGO once the channel's CSR reads as stopped, and
+/// `a_dmago_copies`, `a_dmago_interrupts`, `a_dmago_is_underway`, `a_dmago_never_fails` and `a_dmago_finishes` are about
+/// the channel's turns. What these laws suppose of lent memory, they suppose of the channel's turns only. The write to
+/// DBGCMD has to be lent at least the program, and all other events may be lent any part of the memory. Between the
+/// channel's turns its thread and these bytes stay as they are.
 ///
 /// An event leaves the thread as it is if it isn't a reset, a restore of another thread, or a debug instruction that
 /// names the thread. It leaves the bytes if it writes no address that the work uses. So several channels copy at once,

@@ -34,8 +34,9 @@
 //! turns it gets besides (`laws::a_dmago_finishes`). A turn is ready if it may take a step and doesn't begin at a
 //! DMAWFE of an event that isn't set, or that INTEN makes an interrupt; at one it only waits (`laws::nothing_happens`).
 //! What is said of such a program holds on a board with several devices over one memory, whatever happens there in any
-//! order, if only the channel's own turns change its thread and the bytes that the program's work uses. All else may be
-//! lent any part of the memory. So several channels of any devices copy at once (`laws::a_board_copies`).
+//! order, under two conditions: only the channel's own turns change its thread and the bytes that the program's work
+//! uses, and each of these turns is lent these bytes. The write to DBGCMD is lent at least the program, and all else may
+//! be lent any part of the memory. So several channels of any devices copy at once (`laws::a_board_copies`).
 //!
 //! [`device::Device::explain`] returns what the program of a channel copies and sets to 0, or why nothing explains it:
 //! for a debugger, and for a host that refuses a DMAGO whose program touches what it must not. From the DMAGO on, until

@@ -168,7 +168,7 @@ impl Thread {
         self.status.bits() + nonsecure
     }
 
-    // Returns whether a device with this number of events can have the thread.
+    // Returns whether the thread's status, CPC, FTR and program go together, in a device with this number of events.
     pub(crate) fn is_sound(&self, events: u8) -> bool
         ensures { IsTrue result ↔ IsSound events self.now }
     {

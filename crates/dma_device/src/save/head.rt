@@ -124,7 +124,8 @@ impl Head {
         }
     }
 
-    // Returns whether a device of this configuration can have these events, interrupts, INTEN and FTRD.
+    // Returns whether the events, the interrupts and INTEN have bits only of the device's events, and FTRD goes with the
+    // manager.
     fn is_sound(&self) -> bool
         requires { self.now.config.events ≤ 32 }
         ensures { IsTrue result ↔ IsSoundHead self.now }

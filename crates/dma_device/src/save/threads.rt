@@ -64,7 +64,7 @@ impl Thread {
         Bus::Chip(bus).fits(self.channel.control())
     }
 
-    // Returns whether a device with this configuration, on whose bus the channel is, can have the thread.
+    // Returns whether what the thread has goes together, in a device with this configuration, on whose bus it is.
     fn is_possible(&self, config: Config) -> bool
         requires { self.now.channel.registers.bus ≡ Bus.Chip config.bus }
         ensures { IsTrue result ↔ (IsSound config.events self.now × IsOn config.bus self.now) }
