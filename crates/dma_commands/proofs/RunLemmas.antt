@@ -1,24 +1,21 @@
 -- What the lines of a script print, and the view after them.
-use Rattle.std.proofs.Common.{◌≡◌, ◌≢◌, ℕ, ◌<◌, ◌+◌, true, false, codes, List, [], ◌∷◌, ◌++◌, length, Option, Some, None, refl, ap, sym, ◌∙◌, take, drop}
-use Rattle.std.proofs.Common.{suc, arith, append_assoc}
+use Rattle.std.proofs.Common.{◌≡◌, ◌≢◌, ℕ, ◌<◌, ◌+◌, true, false, List, [], ◌∷◌, ◌++◌, length, Option, Some, None, ap, sym, ◌∙◌, take}
+use Rattle.std.proofs.Common.{arith, append_assoc}
 use Rattle.std.proofs.{Math.Seq.take-append-add, lemmas.List.append-nil, lemmas.List.length-append, lemmas.Result.on_err_weaker, lemmas.Result.on_ok_weaker}
 use Rattle.std.specs.Prelude.{IsErr, OnErr, OnOk, Result}
 use Rattle.dma_mem.specs.{Places.Descriptor, Refusals.refusal_of, declared.call.Call.Call, declared.transfer.TransferFault.TransferFault}
-use Rattle.dma_engine.specs.declared.call.Reply.TheVariants.{Bytes, Cookie, Refused}
-use Rattle.dma_engine.specs.Answer.{CallAnswers, answer, read_fault, unless}
-use Rattle.dma_engine.specs.{declared.call.Reply.Reply, declared.entry.Entry.TheVariants.ReadBack, declared.fault.EngineFault.EngineFault}
-use Rattle.dma_engine.specs.{declared.fault.EngineFault.TheVariants.NoMemory, Turn.with_entry, View.View, View.object_of}
-use Rattle.dma_engine.proofs.{Queues.slice_get_push_last, JoinedCalls.answer_unless_no_memory}
+use Rattle.dma_engine.specs.declared.call.Reply.TheVariants.{Refused}
+use Rattle.dma_engine.specs.Answer.{CallAnswers, answer}
+use Rattle.dma_engine.specs.{declared.call.Reply.Reply}
+use Rattle.dma_engine.specs.{declared.fault.EngineFault.TheVariants.NoMemory, View.View}
+use Rattle.dma_engine.proofs.{JoinedCalls.answer_unless_no_memory}
 use Rattle.dma_io.specs.Command.{Answers, AppendsGroups, Printed, printed_text, text_of}
-use Rattle.dma_script.specs.{Interpreted.ActsInTurn, Interpreted.PrintsLines, Interpreted.StopsAtALine, declared.statements.Statement.Statement}
-use Rattle.dma_text.specs.Digits.{hex_digits, spaced_bytes}
-use Rattle.dma_commands.specs.Printed.{call_line, fault_text, refused_line, reply_text, transfer_fault_name}
+use Rattle.dma_commands.specs.Printed.{call_line, refused_line, reply_text, transfer_fault_name}
 use Rattle.dma_commands.specs.Run.{Answered, call_answer, copied, is_in_use, is_refused, most_copy_steps, stepped_to_end}
 use Rattle.dma_commands.specs.Run.{unless_invalid}
-use Rattle.dma_commands.specs.{Left.lines_left, inner.RunSteps.RunsLine}
+use Rattle.dma_commands.specs.{inner.RunSteps.RunsLine}
 use Rattle.dma_script.proofs.InterpretedLemmas.{printed_text_append}
-use Rattle.dma_commands.proofs.Served.{refused_served}
-use Rattle.dma_mem.specs.declared.call.Call.TheVariants.{Read, Submit as SubmitCall, Issue as IssueCall}
+use Rattle.dma_mem.specs.declared.call.Call.TheVariants.{Submit as SubmitCall, Issue as IssueCall}
 
 -- ---- a line that was printed
 

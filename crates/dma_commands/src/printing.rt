@@ -1,6 +1,7 @@
 //! The texts of refusals, calls and replies.
-ghost use Rattle.std.specs.Prelude.{◌≡◌, ◌≢◌, ◌++◌, OnOk};
+ghost use Rattle.std.specs.Prelude.{◌≡◌, ◌≢◌, ◌++◌, ◌∷◌, [], OnErr, OnOk};
 ghost use Rattle.dma_text.specs.Text.{Begins};
+ghost use Rattle.dma_io.specs.Command.{text_of};
 ghost use Rattle.dma_mem.specs.declared.transfer.TransferFault.TheVariants as rules;
 ghost use Rattle.dma_engine.specs.Answer.{reply_of};
 ghost use Rattle.dma_engine.specs.declared.call.Reply.TheVariants.{Refused, Turned};
@@ -8,8 +9,9 @@ ghost use Rattle.dma_engine.specs.declared.fault.EngineFault.TheVariants.{NoMemo
 ghost use Rattle.dma_commands.specs.Printed.{call_line, call_words, fault_text, outcome_text, reply_text, result_name, status_name, transfer_fault_name, turn_text};
 
 use dma_engine::{Call, EngineFault, Outcome, Reply, Status, TransResult, Turn};
+use dma_io::printing::print_line;
 use dma_mem::transfer::TransferFault;
-use dma_text::text::{Address, SpacedBytes, Text};
+use dma_text::text::{Address, SpacedBytes, Text, print};
 use std::alloc::AllocError;
 
 /// Shows a value of the engine as it is printed. A fault `NoMemory` can't be printed.
@@ -193,5 +195,26 @@ impl Text for Shown<(&Call, &Reply)> {
             Reply::Refused(_) => Shown(reply).push(out),
             _ => (Shown(call), Shown(reply)).push(out),
         }
+    }
+}
+
+/// Appends the line of a call and its reply. The commonest lines are appended without a look at what else they may be.
+/// Appends nothing if the reply is out of memory, or memory runs out.
+#[inline(always)]
+pub fn print_call(call: &Call, reply: &Reply, out: &mut Vec<u8>) -> Result<(), AllocError>
+    ensures ok { OnOk result
+        (out.new.items ≡ out.old.items ++ text_of (call_line call.now reply.now ∷ [])) }
+    ensures printed { OnOk result (reply.now ≢ Refused NoMemory) }
+    ensures err { OnErr result (out.new.items ≡ out.old.items) }
+{
+    match (call, reply) {
+        (Call::Write { .. }, Reply::Done) => out.extend_from_slice(b"ok\n"),
+        (Call::Read { addr, .. }, Reply::Bytes(bytes)) => {
+            let bytes = SpacedBytes(bytes.as_slice());
+            print(out, &("read 0x", Address(*addr), bytes, "\n"))
+        }
+        (Call::Submit { .. }, Reply::Cookie(cookie)) => print(out, &("cookie ", *cookie, "\n")),
+        (Call::Issue { .. }, Reply::Count(count)) => print(out, &("issued ", *count, "\n")),
+        _ => print_line(out, &Shown((call, reply))),
     }
 }

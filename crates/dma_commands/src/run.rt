@@ -10,6 +10,7 @@ mod call_list;
 mod calls;
 mod copies;
 mod left;
+mod reused;
 mod steps;
 
 use crate::printing::Shown;
@@ -30,6 +31,8 @@ use std::alloc::{AllocError, Global};
 
 impl CallList {
     /// Takes a line that makes one call. It waits in the list, whose lines are executed first if it is full.
+    // (Inlined, so that the call is made in its place.)
+    #[inline(always)]
     fn take_call(
         &mut self,
         engine: &mut Engine,
@@ -47,8 +50,8 @@ impl CallList {
         self.push(call)
     }
 
-    /// Takes a `step` line. It waits in the list, unless it has too many steps for one.
-    fn take_steps(
+    /// Takes a `step` line that may need memory. It waits in the list, unless it has too many steps for one.
+    fn take_more_steps(
         &mut self,
         engine: &mut Engine,
         ch: u8,
@@ -70,7 +73,30 @@ impl CallList {
         self.push_steps(ch, count)
     }
 
+    /// Takes a `step` line. It waits in the list, unless it has too many steps for one.
+    fn take_steps(
+        &mut self,
+        engine: &mut Engine,
+        ch: u8,
+        count: u32,
+        out: &mut Vec<u8>,
+    ) -> Result<(), AllocError>
+        ensures ok { OnOk result ((behind : List TheStatement) → Reaches engine.old.view
+            (self.old ++ Statement.Step ch count ∷ behind) out.old.items
+            engine.new.view (self.new ++ behind) out.new.items) }
+        ensures err { OnErr result ((behind : List TheStatement) → AppendsGroups
+            (lines_answered engine.old.view (self.old ++ Statement.Step ch count ∷ behind))
+            out.old.items out.new.items) }
+    {
+        if self.reuse_step(ch, count) {
+            return Ok(());
+        }
+        self.take_more_steps(engine, ch, count, out)
+    }
+
     /// Takes a `submit` line. If its transfer breaks a rule, it makes no call.
+    // (Not inlined, so that no other line clears its locals.)
+    #[inline(never)]
     fn take_submit(
         &mut self,
         engine: &mut Engine,

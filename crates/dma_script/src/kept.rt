@@ -136,6 +136,8 @@ impl KeptCall {
     }
 
     /// Returns the call. Fails with `AllocError` if memory runs out.
+    // (Inlined, so that the call is made where it is kept next.)
+    #[inline(always)]
     pub fn into_call(self, alloc: Global) -> Result<Call, AllocError>
         ensures { IfOk result (λ call. call ≡ self) }
     {

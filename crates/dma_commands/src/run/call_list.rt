@@ -1,5 +1,5 @@
 //! Lines of a script whose calls are made by one `run`.
-ghost use Rattle.std.specs.Prelude.{◌≡◌, ◌≤◌, ◌<◌, ◌+◌, ◌++◌, ◌∷◌, [], ℕ, List, drop, length, replicate, OnOk, OnErr, IfOk};
+ghost use Rattle.std.specs.Prelude.{◌≡◌, ◌≤◌, ◌<◌, ◌+◌, ◌++◌, ◌∷◌, [], false, ℕ, List, drop, length, replicate, IsTrue, OnOk, OnErr, IfOk};
 ghost use Rattle.dma_engine.specs.Answer.{AreAnswers};
 ghost use Rattle.dma_engine.specs.View.{View};
 ghost use Rattle.dma_io.specs.Command.{AppendsGroups};
@@ -8,11 +8,11 @@ ghost use Rattle.dma_commands.specs.inner.Listed.{AnswersLines, IsWhole, Prints,
 ghost use Rattle.dma_commands.specs.declared.run.call_list.Line.{Line as TheLine};
 ghost use Rattle.dma_script.specs.declared.statements.Statement.{Statement as TheStatement};
 
-use crate::printing::Shown;
+use crate::printing::print_call;
+use crate::run::reused::ReusedCalls;
 use crate::run::steps::{StepLines, print_steps};
 use dma_engine::run::run;
 use dma_engine::{Call, Engine, Reply};
-use dma_io::printing::print_line;
 use dma_script::statements::Statement;
 use std::alloc::{AllocError, Global};
 use std::marker::Model;
@@ -37,7 +37,7 @@ enum Line {
 pub struct CallList {
     lines: Vec<Line>,
     // The calls of all lines, in order.
-    calls: Vec<Call>,
+    calls: ReusedCalls,
     // What prints the answers to steps. Its memory is reused.
     steps: StepLines,
 }
@@ -49,9 +49,9 @@ impl Model for CallList {
 
     ghost Value = { List Statement };
 
-    ghost view = { λ s. statements_in s.lines.items s.calls.items };
+    ghost view = { λ s. statements_in s.lines.items s.calls };
 
-    ghost invariant = { λ s. IsWhole s.lines.items s.calls.items };
+    ghost invariant = { λ s. IsWhole s.lines.items s.calls };
 }
 
 impl CallList {
@@ -61,7 +61,7 @@ impl CallList {
     {
         CallList {
             lines: Vec::new(alloc),
-            calls: Vec::new(alloc),
+            calls: ReusedCalls::new(alloc),
             steps: StepLines::new(alloc),
         }
     }
@@ -72,11 +72,12 @@ impl CallList {
         ensures { self.new ≡ self.old }
     {
         let len = self.calls.len();
-        let is_short = len == 0 || len + count as usize <= MOST_SHARED;
+        let is_short = len == 0 || len <= MOST_SHARED && count as usize <= MOST_SHARED - len;
         is_short && self.lines.reserve(1).is_ok() && self.calls.reserve(count as usize).is_ok()
     }
 
     /// Adds a line that makes one call.
+    #[inline(always)]
     pub fn push(&mut self, call: Call) -> Result<(), AllocError>
         ensures { OnOk result (self.new ≡ self.old ++ Statement.Call call ∷ []) }
     {
@@ -86,12 +87,28 @@ impl CallList {
         Ok(())
     }
 
+    /// Adds a line that takes one step, if it may wait together with those that wait, and takes no memory. Returns
+    /// whether it was added. (Most lines of long scripts take one step.)
+    #[inline(always)]
+    pub fn reuse_step(&mut self, ch: u8, count: u32) -> bool
+        ensures added { IsTrue result → self.new ≡ self.old ++ Statement.Step ch count ∷ [] }
+        ensures same { result ≡ false → self.new ≡ self.old }
+    {
+        let is_one = count == 1 && self.lines.len() < self.lines.capacity();
+        if is_one && self.calls.len() < MOST_SHARED && self.calls.reuse_step(ch) {
+            self.lines.push_reserved(Line::Steps { ch, count });
+            return true;
+        }
+        false
+    }
+
     /// Adds a line that takes this many steps of a channel.
+    #[inline(always)]
     pub fn push_steps(&mut self, ch: u8, count: u32) -> Result<(), AllocError>
         ensures { OnOk result (self.new ≡ self.old ++ Statement.Step ch count ∷ []) }
     {
         self.lines.reserve(1)?;
-        push_calls(&mut self.calls, ch, count)?;
+        self.calls.push_steps(ch, count)?;
         self.lines.push_reserved(Line::Steps { ch, count });
         Ok(())
     }
@@ -129,27 +146,15 @@ impl CallList {
         if self.lines.is_empty() {
             return Ok(());
         }
-        let Ok(replies) = run(*out.allocator(), engine, &self.calls) else {
+        let calls = self.calls.as_slice();
+        let Ok(replies) = run(*out.allocator(), engine, calls) else {
             return Err(AllocError);
         };
-        print_replies(&self.lines, &self.calls, &replies, &mut self.steps, out)?;
+        print_replies(&self.lines, calls, &replies, &mut self.steps, out)?;
         self.lines.clear();
         self.calls.clear();
         Ok(())
     }
-}
-
-/// Adds this many steps of a channel to a list of calls. If memory runs out, the list is unchanged.
-pub fn push_calls(calls: &mut Vec<Call>, ch: u8, count: u32) -> Result<(), AllocError>
-    ensures ok { OnOk result
-        (calls.new.items ≡ calls.old.items ++ replicate count (Call.Step ch)) }
-    ensures err { OnErr result (calls.new.items ≡ calls.old.items) }
-{
-    calls.reserve(count as usize)?;
-    for _ in 0..count {
-        calls.push_reserved(Call::Step { ch });
-    }
-    Ok(())
 }
 
 /// Appends what a line prints, given its calls and their replies, and perhaps further ones. Returns the number of its
@@ -175,7 +180,7 @@ fn print_first(
 {
     match line {
         Line::Call => {
-            print_line(out, &Shown((&calls[0], &replies[0])))?;
+            print_call(&calls[0], &replies[0], out)?;
             Ok(1)
         }
         Line::Steps { ch, count } => {

@@ -4,13 +4,14 @@ ghost use Rattle.std.specs.Prelude.{◌≡◌, ◌≢◌, ◌≤◌, ◌<◌, �
 ghost use Rattle.dma_engine.specs.Answer.{reply_of};
 ghost use Rattle.dma_io.specs.Command.{text_of};
 ghost use Rattle.dma_commands.specs.Laws.{HaveMemory};
-ghost use Rattle.dma_commands.specs.Printed.{reply_text};
+ghost use Rattle.dma_commands.specs.Printed.{reply_text, turn_text};
 ghost use Rattle.dma_commands.specs.inner.Counting.{text_with, transfer_text};
 ghost use Rattle.dma_commands.specs.inner.RunSteps.{RunsLine};
 ghost use Rattle.dma_commands.specs.Run.{step_answer, step_line, step_lines};
 
 use crate::printing::Shown;
-use crate::run::call_list::{MAX_CALLS, push_calls};
+use crate::run::call_list::MAX_CALLS;
+use crate::run::reused::ReusedCalls;
 use dma_engine::run::run;
 use dma_engine::{Engine, EngineFault, Reply, TransResult, Turn};
 use dma_io::printing::print_line;
@@ -157,6 +158,7 @@ pub fn step_reply(turn: Result<Turn, EngineFault>) -> Result<Reply, AllocError>
 }
 
 /// Returns how many of these results of steps are this one, up to the first other.
+#[inline(always)]
 fn equal_turns(turn: Turn, replies: &[Reply]) -> usize
     ensures few { result ≤ length replies.now }
     ensures equal { take result replies.now ≡ replicate result (Reply.Turned turn) }
@@ -213,6 +215,34 @@ fn print_moved(ch: u8, out: &mut Vec<u8>) -> Result<(), AllocError>
     out.extend_from_slice(&line)
 }
 
+/// Appends the line of one step that found nothing to do. Most channels have one digit.
+fn print_nothing(ch: u8, out: &mut Vec<u8>) -> Result<(), AllocError>
+    ensures ok { OnOk result
+        (out.new.items ≡ out.old.items ++ text_of (step_line ch (codes "nothing", 1) ∷ [])) }
+    ensures err { OnErr result (out.new.items ≡ out.old.items) }
+{
+    if ch >= 10 {
+        return print_step(ch, &Reply::Turned(Turn::Nothing), out);
+    }
+    let mut line = *b"step 0 nothing x1\n";
+    line[5] += ch;
+    out.extend_from_slice(&line)
+}
+
+/// Appends the line of one step with this result. The two commonest are appended at once.
+#[inline(always)]
+fn print_turn(ch: u8, turn: Turn, out: &mut Vec<u8>) -> Result<(), AllocError>
+    ensures ok { OnOk result
+        (out.new.items ≡ out.old.items ++ text_of (step_line ch (turn_text turn, 1) ∷ [])) }
+    ensures err { OnErr result (out.new.items ≡ out.old.items) }
+{
+    match turn {
+        Turn::Moved => print_moved(ch, out),
+        Turn::Nothing => print_nothing(ch, out),
+        _ => print_step(ch, &Reply::Turned(turn), out),
+    }
+}
+
 /// A transfer that starts, moves and finishes without an error.
 #[derive(Clone, Copy)]
 struct Whole {
@@ -263,27 +293,10 @@ fn print_transfer(ch: u8, whole: Whole, out: &mut Vec<u8>) -> Result<(), AllocEr
         ≡ out.old.items ++ transfer_text ch whole.started whole.moved whole.finished) }
     ensures err { OnErr result (out.new.items ≡ out.old.items) }
 {
-    let finish = Turn::Finished {
-        cookie: whole.finished,
-        result: TransResult::NoError,
-        residue: 0,
-    };
-    let start = StepLine {
-        ch,
-        answer: Shown(Turn::Started(whole.started)),
-        count: 1,
-    };
-    let moves = StepLine {
-        ch,
-        answer: Shown(Turn::Moved),
-        count: whole.moved,
-    };
-    let finish = StepLine {
-        ch,
-        answer: Shown(finish),
-        count: 1,
-    };
-    print(out, &((start, "\n"), (moves, "\n"), (finish, "\n")))
+    let start = ("step ", ch, " started ", whole.started);
+    let moves = (" x1\nstep ", ch, " moved x", whole.moved);
+    let finish = ("\nstep ", ch, " finished ", whole.finished);
+    print(out, &(start, moves, finish, " NoError residue 0 x1\n"))
 }
 
 /// Appends the lines of the answers to several steps of a channel. Not inlined, since most lines take one step.
@@ -325,7 +338,7 @@ pub fn print_steps(
     ensures err { OnErr result (out.new.items ≡ out.old.items) }
 {
     match replies {
-        [Reply::Turned(Turn::Moved)] => print_moved(ch, out),
+        [Reply::Turned(turn)] => print_turn(ch, *turn, out),
         [reply] => print_step(ch, reply, out),
         _ => print_several(ch, replies, steps, out),
     }
@@ -344,8 +357,9 @@ pub fn answer_steps(
 {
     let alloc = *out.allocator();
     let mut steps = StepLines::new(alloc);
-    let mut calls = Vec::new(alloc);
-    push_calls(&mut calls, ch, MAX_CALLS)?;
+    let mut calls = ReusedCalls::new(alloc);
+    calls.push_steps(ch, MAX_CALLS)?;
+    let calls = calls.as_slice();
     let mut left = count;
     while left > 0 {
         let many = left.min(MAX_CALLS);

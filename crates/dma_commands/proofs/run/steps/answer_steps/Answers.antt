@@ -17,13 +17,13 @@ take_all-requires c =
     let inv = c.loop-left.invariant in
     let few : many ≤ 1024 = omega (arith, c.min-many.ensures) in
     let within : many ≤ left = omega (arith, c.min-many.ensures) in
-    let calls : c.push_calls.new.calls.items ≡ replicate 1024 step = c.in_ok-push_calls.ensures.ok
-    ∙ ap (λ l. l ++ replicate 1024 step) c.new-calls.ensures.items in
-    let row : take many c.deref.result.now ≡ replicate many step = ap (take many) (c.deref.ensures.value ∙ calls) ∙ take-replicate many 1024 step few in
-    let replies = c.deref-in-loop-left.result.now in
-    let are : AreAnswers c.loop-left.engine.view (take many c.deref.result.now) replies c.run.new.engine.view =
-    subst (λ (r : List Reply). AreAnswers c.loop-left.engine.view (take many c.deref.result.now) r c.run.new.engine.view)
-    (sym c.deref-in-loop-left.ensures.value) c.in-Ok.ensures.answers in
+    let calls : c.push_steps.new.self ≡ replicate 1024 step = c.in_ok-push_steps.ensures.ok
+    ∙ ap (λ l. l ++ replicate 1024 step) c.new-calls.ensures in
+    let row : take many c.as_slice-calls.result.now ≡ replicate many step = ap (take many) (c.as_slice-calls.ensures ∙ calls) ∙ take-replicate many 1024 step few in
+    let replies = c.deref.result.now in
+    let are : AreAnswers c.loop-left.engine.view (take many c.as_slice-calls.result.now) replies c.run.new.engine.view =
+    subst (λ (r : List Reply). AreAnswers c.loop-left.engine.view (take many c.as_slice-calls.result.now) r c.run.new.engine.view)
+    (sym c.deref.ensures.value) c.in-Ok.ensures.answers in
     let len : length replies ≡ many = answers_length _ _ _ _ are ∙ ap length row ∙ length-replicate many step in
     omega (arith, inv.counted, inv.left, within, len, c.ranges.count.fits)
 
@@ -39,23 +39,23 @@ loop-left-preserved c =
     let inv = c.loop-left.invariant in
     let few : many ≤ 1024 = omega (arith, c.min-many.ensures) in
     let within : many ≤ left = omega (arith, c.min-many.ensures) in
-    let calls : c.push_calls.new.calls.items ≡ replicate 1024 step = c.in_ok-push_calls.ensures.ok
-    ∙ ap (λ l. l ++ replicate 1024 step) c.new-calls.ensures.items in
-    let row : take many c.deref.result.now ≡ replicate many step = ap (take many) (c.deref.ensures.value ∙ calls) ∙ take-replicate many 1024 step few in
-    let replies = c.deref-in-loop-left.result.now in
-    let are : AreAnswers c.loop-left.engine.view (take many c.deref.result.now) replies c.run.new.engine.view =
-    subst (λ (r : List Reply). AreAnswers c.loop-left.engine.view (take many c.deref.result.now) r c.run.new.engine.view)
-    (sym c.deref-in-loop-left.ensures.value) c.in-Ok.ensures.answers in
+    let calls : c.push_steps.new.self ≡ replicate 1024 step = c.in_ok-push_steps.ensures.ok
+    ∙ ap (λ l. l ++ replicate 1024 step) c.new-calls.ensures in
+    let row : take many c.as_slice-calls.result.now ≡ replicate many step = ap (take many) (c.as_slice-calls.ensures ∙ calls) ∙ take-replicate many 1024 step few in
+    let replies = c.deref.result.now in
+    let are : AreAnswers c.loop-left.engine.view (take many c.as_slice-calls.result.now) replies c.run.new.engine.view =
+    subst (λ (r : List Reply). AreAnswers c.loop-left.engine.view (take many c.as_slice-calls.result.now) r c.run.new.engine.view)
+    (sym c.deref.ensures.value) c.in-Ok.ensures.answers in
     let len : length replies ≡ many = answers_length _ _ _ _ are ∙ ap length row ∙ length-replicate many step in
     let sum : (c.args.count - left) + many ≡ c.args.count - (left - many) = omega (arith, within, inv.left) in
     let take_all = c.in_ok-take_all.ensures in
     record {
       left = omega (arith, inv.left);
       counted = omega (arith, take_all.count, inv.counted, within, inv.left, len);
-      view = list_view v w u step (take many c.deref.result.now) replies (c.args.count - left) many _ sum inv.view row are take_all.memory;
+      view = list_view v w u step (take many c.as_slice-calls.result.now) replies (c.args.count - left) many _ sum inv.view row are take_all.memory;
       text = λ rest. take_all.text rest ∙ inv.text (map reply_text replies ++ rest)
           ∙ ap (λ l. text_of (step_lines ch l))
-          (list_texts v w u step (take many c.deref.result.now) replies (c.args.count - left) many _ rest sum inv.view row are take_all.memory);
+          (list_texts v w u step (take many c.as_slice-calls.result.now) replies (c.args.count - left) many _ rest sum inv.view row are take_all.memory);
     }
 
 pub returns : goal.returns

@@ -1,4 +1,4 @@
-use Rattle.std.proofs.Common.{◌<◌, ◌∙◌, ap, arith, length, subst, sym}
+use Rattle.std.proofs.Common.{◌<◌, ◌∙◌, ap, arith, length, subst}
 use Rattle.dma_io.specs.Command.{AppendsGroups}
 use Rattle.dma_commands.specs.Run.{lines_answered}
 use Rattle.dma_commands.proofs.ListLemmas.{answers_length, stops_unprinted}
@@ -10,8 +10,8 @@ returns-in_default-clause-err c =
     let out = c.args.out.now.items in
     let some : 0 < length c.self.inside.lines.items = grind arith in
     subst (λ l. AppendsGroups (lines_answered v l) out out) c.self.view_is
-    (stops_unprinted v c.self.inside.lines.items c.self.inside.calls.items out c.self.invariant some)
+    (stops_unprinted v c.self.inside.lines.items c.self.inside.calls out c.self.invariant some)
 
 pub print_replies-requires-clause-same : goal.print_replies-requires-clause-same
 print_replies-requires-clause-same c =
-    ap length c.deref-4.ensures.value ∙ answers_length _ _ _ _ c.in-Ok.ensures.answers ∙ ap length (c.deref.ensures.value ∙ sym c.deref-3.ensures.value)
+    ap length c.deref-2.ensures.value ∙ answers_length _ _ _ _ c.in-Ok.ensures.answers

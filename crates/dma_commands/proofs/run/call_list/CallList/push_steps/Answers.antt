@@ -11,14 +11,14 @@ invariant_of-self-2 c =
     let s = c.self.inside in
     let ch = c.args.ch in
     let count = c.args.count in
-    rw (c.push_reserved.ensures.items, c.reserve.ensures.items, c.in_ok-push_calls.ensures.ok)
-    (added s.lines.items (lines.Steps ch count) s.calls.items (replicate count (Step ch)) c.self.invariant (whole_steps ch count)).0
+    rw (c.push_reserved.ensures.items, c.reserve.ensures.items, c.in_ok-push_steps.ensures.ok)
+    (added s.lines.items (lines.Steps ch count) s.calls (replicate count (Step ch)) c.self.invariant (whole_steps ch count)).0
 
 pub returns : goal.returns
 returns c =
     let s = c.self.inside in
     let ch = c.args.ch in
     let count = c.args.count in
-    rw (c.push_reserved.ensures.items, c.reserve.ensures.items, c.in_ok-push_calls.ensures.ok)
-    ((added s.lines.items (lines.Steps ch count) s.calls.items (replicate count (Step ch)) c.self.invariant (whole_steps ch count)).1
+    rw (c.push_reserved.ensures.items, c.reserve.ensures.items, c.in_ok-push_steps.ensures.ok)
+    ((added s.lines.items (lines.Steps ch count) s.calls (replicate count (Step ch)) c.self.invariant (whole_steps ch count)).1
     ∙ ap (λ before. before ++ statements.Step ch count ∷ []) c.self.view_is)
