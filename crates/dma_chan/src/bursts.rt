@@ -176,6 +176,8 @@ fn put_run(buffer: &mut Fifo, byte: u8, count: u32)
 }
 
 // Appends the bytes to the buffer `rounds` times. A single byte, as in the source of a fill, is appended as one run.
+// Not inlined, since the addresses of most bursts rise.
+#[inline(never)]
 #[tactic(auto, using(crate::proofs::BurstRounds::one_run, crate::proofs::BurstRounds::round_put))]
 fn put_rounds(buffer: &mut Fifo, bytes: &[u8], rounds: u32)
     requires few { rounds ≤ 16 }
@@ -193,6 +195,7 @@ fn put_rounds(buffer: &mut Fifo, bytes: &[u8], rounds: u32)
 
 // Loads the bytes of a burst into the buffer. Bytes on one page are read in place, and bytes on two pages through the
 // block.
+#[inline(always)]
 #[tactic(auto, using(crate::proofs::BurstRounds::read_touched))]
 fn load_span<M: Ram>(burst: Burst, buffer: &mut Fifo, block: &mut [u8], memory: &M)
     requires some { IsBurst burst }
@@ -243,7 +246,8 @@ pub(crate) fn load_fault<M: Ram>(
     None
 }
 
-// Executes DMALD.
+// Executes DMALD. Inlined with all that it mostly calls, so that the burst isn't passed in memory.
+#[inline(always)]
 pub(crate) fn load_burst<M: Ram>(executor: &mut Executor, memory: &M, marks: &Marks) -> ChanTurn
     requires block { length executor.old.block.items ≡ buffer_size }
     requires pc { executor.old.registers.pc < most_program_bytes }

@@ -90,7 +90,8 @@ impl Fifo {
     }
 
     /// Moves the first bytes to `block`, as many as it has. If none is left, the next one goes to the start of the
-    /// ring's memory, so that bursts lie in one piece again.
+    /// ring's memory, so that bursts lie in one piece again. Not inlined, since it is rare.
+    #[inline(never)]
     pub(crate) fn read_into(&mut self, block: &mut [u8])
         requires { length block.old ≤ length self.old }
         ensures read { block.new ≡ take (length block.old) self.old }

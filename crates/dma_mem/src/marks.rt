@@ -99,6 +99,7 @@ impl Marks {
     }
 
     /// Returns whether a mark of the kind meets the segment: whether an address of the segment lies in such a mark.
+    #[inline(always)]
     pub fn hits(&self, kind: MarkKind, segment: Segment) -> bool
         ensures meets { result ≡ hits kind self.now segment }
         ensures addresses { result

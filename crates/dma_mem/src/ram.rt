@@ -121,6 +121,7 @@ impl Ram for Memory {
         segment.len
     }
 
+    #[inline(always)]
     fn bytes<'a>(&'a self, addr: u32, block: &'a mut [u8]) -> &'a [u8] {
         Memory::bytes(self, addr, block)
     }
@@ -129,6 +130,7 @@ impl Ram for Memory {
         Memory::prepare(self, segment)
     }
 
+    #[inline(always)]
     fn put(&mut self, addr: u32, bytes: &[u8]) {
         Memory::put(self, addr, bytes);
     }

@@ -34,7 +34,8 @@ fn is_blank(bytes: &Vec<u8>) -> bool
     bytes.is_empty() && bytes.capacity() > 0
 }
 
-// Adds the zeros of a chunk to its empty list, which has memory for them.
+// Adds the zeros of a chunk to its empty list, which has memory for them. Not inlined, since it is rare.
+#[inline(never)]
 fn push_zeros(bytes: &mut Vec<u8>)
     requires blank { IsTrue (is_blank (vec_capacity bytes.old) bytes.old.items) }
     requires room { chunk_size ≤ vec_capacity bytes.old }
@@ -114,6 +115,7 @@ impl Chunk {
     }
 
     // Writes the bytes from an offset on. The chunk is already made.
+    #[inline(always)]
     fn put(&mut self, offset: usize, bytes: &[u8])
         requires fits { offset + length bytes.now ≤ chunk_size }
         requires made { 0 < length self.old }
@@ -222,6 +224,7 @@ impl Group {
     }
 
     // Writes the bytes to a chunk that is already made, from an offset on.
+    #[inline(always)]
     fn put(&mut self, index: usize, offset: usize, bytes: &[u8])
         requires fits { offset + length bytes.now ≤ chunk_size }
         requires made { 0 < length (chunk_at self.old index) }
@@ -311,6 +314,7 @@ impl Table {
     }
 
     // Writes the bytes from `start` on. They lie in one chunk, which is already made.
+    #[inline(always)]
     #[tactic(auto, using(crate::proofs::ChunkChanges::group_found, crate::proofs::ChunkChanges::chunk_in_group))]
     fn put_in_chunk(&mut self, start: usize, bytes: &[u8])
         requires within { start % chunk_size + length bytes.now ≤ chunk_size }

@@ -173,7 +173,7 @@ impl Publisher {
     }
 
     /// Takes a step of an engine. If it finishes a cookie, everything grows first that the step and its publication
-    /// need, and its tick is published.
+    /// need, and its tick is published. Most steps only move, which needs no look at the step first.
     pub fn step<R: Wait>(
         &mut self,
         rt: &R,
@@ -186,10 +186,13 @@ impl Publisher {
         ensures answer { StepAnswers engine.old.view ch result engine.new.view }
         ensures published { Publishes self.old (ticks_in ch result) self.new }
     {
+        if engine.moves(ch) {
+            return Ok(Turn::Moved);
+        }
         if engine.ending(ch) {
             self.finish(rt, engine, ch)
         } else {
-            engine.step(ch)
+            engine.rare_step(ch)
         }
     }
 
@@ -206,7 +209,7 @@ impl Publisher {
         if engine.make_room(ch).is_err() || !self.ready(tick) {
             return Err(EngineFault::NoMemory);
         }
-        let Ok(turn) = engine.step(ch) else {
+        let Ok(turn) = engine.rare_step(ch) else {
             unreachable!();
         };
         self.publish(rt, tick, engine);

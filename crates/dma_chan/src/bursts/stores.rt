@@ -20,6 +20,7 @@ use dma_mem::ram::Ram;
 
 // Stores the oldest bytes of the buffer as a burst. Bytes that a later beat would overwrite are not written. Bytes in
 // two pieces are written through the block.
+#[inline(always)]
 fn store_span<M: Ram>(burst: Burst, buffer: &mut Fifo, block: &mut [u8], memory: &mut M)
     requires some { IsBurst burst }
     requires bytes { burst_len burst ≤ length buffer.old }
@@ -75,7 +76,8 @@ pub(crate) fn store_fault<M: Ram>(
     None
 }
 
-// Executes DMAST. Returns also how many bytes it stored.
+// Executes DMAST. Returns also how many bytes it stored. Inlined like `load_burst`.
+#[inline(always)]
 pub(crate) fn store_burst<M: Ram>(
     executor: &mut Executor,
     memory: &mut M,

@@ -50,7 +50,15 @@ impl Engine {
     pub fn ending(&self, ch: u8) -> bool
         ensures { result ≡ ends (turn self.now.view ch).0 }
     {
-        matches!(self.next_turn(ch), Ok(Turn::Finished { .. }))
+        self.facts();
+        let Some(next) = self.due(ch) else {
+            return false;
+        };
+        match next.insn() {
+            ChipInsn::Wfe { .. } | ChipInsn::Sev(_) => false,
+            ChipInsn::End => true,
+            _ => self.next_failure(ch, next).is_some(),
+        }
     }
 
     // Returns the turn of a front that isn't running.

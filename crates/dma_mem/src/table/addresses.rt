@@ -11,6 +11,7 @@ use std::alloc::{AllocError, Global};
 
 impl Table {
     /// Returns the `len` bytes from `start` on, or `None` if they don't lie in one chunk.
+    #[inline(always)]
     pub(crate) fn part(&self, start: usize, len: usize) -> Option<&[u8]>
         requires { start + len < 2 ^ 33 }
         ensures bytes { IfSome result

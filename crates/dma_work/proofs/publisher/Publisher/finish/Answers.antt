@@ -40,7 +40,7 @@ pub unreachable-requires : goal.unreachable-requires
 unreachable-requires g c =
     let m = c.make_room.new.self.view in
     let over : ends (turn m c.args.ch).0 ≡ true = ap (λ (u : View). ends (turn u c.args.ch).0) c.make_room.ensures.view ∙ c.requires.ends in
-    end_is_ok m c.step.new.self.view c.args.ch c.in_default.field-0 over c.in_default.ensures.answer (c.in_default.ensures.room (grind arith))
+    end_is_ok m c.rare_step.new.self.view c.args.ch c.in_default.field-0 over c.in_default.ensures.answer (c.in_default.ensures.room (grind arith))
 
 pub returns-then-is_err-clause-answer : goal.returns-then-is_err-clause-answer
 returns-then-is_err-clause-answer g c = (end_takes c.args.engine.now.view c.args.ch c.requires.ends, c.make_room.ensures.view)
@@ -48,7 +48,7 @@ returns-then-is_err-clause-answer g c = (end_takes c.args.engine.now.view c.args
 pub publish-requires-clause-acted : goal.publish-requires-clause-acted
 publish-requires-clause-acted g c =
     let m = c.make_room.new.self.view in
-    let w = c.step.new.self.view in
+    let w = c.rare_step.new.self.view in
     let ch = c.args.ch in
     let same = c.make_room.ensures.view in
     let over : ends (turn m ch).0 ≡ true = ap (λ (u : View). ends (turn u ch).0) same ∙ c.requires.ends in
@@ -59,7 +59,7 @@ publish-requires-clause-acted g c =
 
 pub returns-clause-answer : goal.returns-clause-answer
 returns-clause-answer g c =
-    subst (λ (v : View). StepAnswers v c.args.ch (Ok c.in-Ok.turn) c.step.new.self.view) c.make_room.ensures.view c.in-Ok.ensures.answer
+    subst (λ (v : View). StepAnswers v c.args.ch (Ok c.in-Ok.turn) c.rare_step.new.self.view) c.make_room.ensures.view c.in-Ok.ensures.answer
 
 pub returns-clause-published : goal.returns-clause-published
 returns-clause-published g c =
@@ -73,4 +73,4 @@ returns-clause-published g c =
       pending = c.publish.ensures.pending;
       before = c.publish.ensures.before ∙ c.ready.ensures.kept.1;
     } in
-    subst (λ (l : List Tick). Publishes p l q) (sym (ended m c.step.new.self.view ch c.in-Ok.turn over c.in-Ok.ensures.answer)) all
+    subst (λ (l : List Tick). Publishes p l q) (sym (ended m c.rare_step.new.self.view ch c.in-Ok.turn over c.in-Ok.ensures.answer)) all
