@@ -1,6 +1,6 @@
-# The part of test_library that measures how much stack each call takes, with the archive and with a shared library. The
-# functions of the C library are bound at their first calls, which takes the most stack: the dynamic linker then runs
-# below the call that calls them.
+# The part of test_library that measures memory: the stack that each call takes, with the archive and with a shared
+# library, and what the history of a controller takes. For the stack the functions of the C library are bound at their
+# first calls, which takes the most: the dynamic linker then runs below the call that calls them.
 
 stack=$full/stack
 
@@ -16,3 +16,5 @@ mkdir -p "$stack"
 stack_with "stack of the calls" "$LIB"
 make_it "the shared library with lazy binding" shared_library "$stack/libdma330.so.1" -Wl,-z,lazy &&
     stack_with "stack of the calls of the shared library" "$stack/libdma330.so.1" "-Wl,-rpath,$stack"
+make_it "history.c" $CC $c_flags -o "$stack/history" tests/c/history.c -Wl,--wrap=malloc,--wrap=realloc,--wrap=free \
+    "$LIB" && count "history.c" "$last_line" "$stack/history"
