@@ -6,8 +6,8 @@ use dma_engine::Call;
 use std::alloc::{AllocError, Global};
 use std::marker::Model;
 
-/// Calls for one `run`. When they are made, they stay as places for the next ones: to add a step takes little more than
-/// to write its channel, and drops nothing. Contracts see the calls that are to be made.
+/// Calls for one `run`. After they were made, they stay as places for the next ones: to add a step takes little more
+/// than to write its channel, and drops nothing. Contracts see the calls that are to be made.
 #[derive(Drop)]
 pub struct ReusedCalls {
     places: Vec<Call>,
@@ -51,7 +51,7 @@ impl ReusedCalls {
         &self.places[..self.len]
     }
 
-    /// Takes all calls for made.
+    /// Removes all calls. Their places stay for the next ones.
     pub fn clear(&mut self)
         ensures { self.new ≡ [] }
     {
